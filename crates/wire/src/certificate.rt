@@ -1,0 +1,87 @@
+// Certificates: a body and the votes of a quorum.
+ghost use mathlib.Core.Path.{_≡_};
+ghost use Prim.Native.Nat.{_+_};
+ghost use Rattle.wire.specs.Fields.{need, laid, lost, size};
+ghost use Rattle.wire.specs.Messages.{certificateFields};
+ghost use Rattle.wire.specs.Refusals.{certificateSaid};
+ghost use Rattle.wire.specs.Readers.{votedFor, readCertificate, judged};
+use crate::answers::BodyAnswer;
+use crate::answers::CertificateAnswer;
+use crate::answers::Refusal;
+use crate::body;
+use crate::fields;
+use crate::fields::Plan;
+use crate::fields::Want;
+use crate::kinds::Payment;
+use crate::order;
+use crate::votes;
+use crate::votes::VotesAnswer;
+
+// The end of the body's field where the message is laid out as a certificate, or LOST.
+pub fn certificate_end(message: &[u8]) -> usize
+    ensures { λ r. ⌜ r ≡ need (laid (now (message .entry)) certificateFields) lost (3 + size (now (message .entry)) 0) ⌝ }
+{
+    let plan = Plan {
+        a: Want::one(0x20, 25, 57),
+        b: Want::all(0x21, 65),
+        c: Want::none(),
+        d: Want::none(),
+        e: Want::none(),
+    };
+    order::enclosed(message, plan)
+}
+
+// The payment with the number of its voters, or what the votes were refused for.
+fn certified(payment: Payment, votes: VotesAnswer) -> CertificateAnswer
+    ensures { λ r. ⌜ r ≡ votedFor payment votes ⌝ }
+{
+    match votes {
+        VotesAnswer::Refused(refusal) => CertificateAnswer::Refused(refusal),
+        VotesAnswer::Counted(machines) => CertificateAnswer::Certifies(payment, machines),
+    }
+}
+
+// The certificate reader judges no verdicts.
+pub fn read_certificate(f: u64, message: &[u8]) -> CertificateAnswer
+    ensures { λ r. ⌜ certificateSaid r ≡ readCertificate f (now (message .entry)) ⌝ }
+{
+    if f > 5 {
+        return CertificateAnswer::Refused(Refusal::OutOfRange);
+    }
+    let end = certificate_end(message);
+    if end == fields::LOST {
+        return CertificateAnswer::Refused(Refusal::Malformed);
+    }
+    match body::read_payment(octets::cut(message, 3, end - 3)) {
+        BodyAnswer::Refused(refusal) => CertificateAnswer::Refused(refusal),
+        BodyAnswer::Pays(payment) => {
+            let n = (message.len() - end) / 68;
+            let t = votes::tally_of(message, end + 3, 68, n, 3 * f);
+            certified(payment, votes::judge_votes(f, t, true))
+        }
+    }
+}
+
+// A certificate judged with the host's verdicts on its votes, one for each.
+pub fn judge_certificate(f: u64, message: &[u8], verdicts: &[u8]) -> CertificateAnswer
+    ensures { λ r. ⌜ certificateSaid r ≡ judged f (now (message .entry)) (now (verdicts .entry)) ⌝ }
+{
+    if f > 5 {
+        return CertificateAnswer::Refused(Refusal::OutOfRange);
+    }
+    let end = certificate_end(message);
+    if end == fields::LOST {
+        return CertificateAnswer::Refused(Refusal::Malformed);
+    }
+    match body::read_payment(octets::cut(message, 3, end - 3)) {
+        BodyAnswer::Refused(refusal) => CertificateAnswer::Refused(refusal),
+        BodyAnswer::Pays(payment) => {
+            let n = (message.len() - end) / 68;
+            if verdicts.len() != n {
+                return CertificateAnswer::Refused(Refusal::VerdictCount);
+            }
+            let t = votes::tally_of(message, end + 3, 68, n, 3 * f);
+            certified(payment, votes::judge_votes(f, t, votes::all_good(verdicts)))
+        }
+    }
+}

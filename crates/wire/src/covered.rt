@@ -1,0 +1,35 @@
+// The stretch of a message that votes cover.
+ghost use mathlib.Core.Path.{_≡_};
+ghost use Rattle.wire.specs.Readers.{isBody, covered};
+use crate::answers::BodyAnswer;
+use crate::body;
+use crate::certificate;
+use crate::fields;
+use crate::order;
+
+fn is_body(body: &[u8]) -> bool
+    ensures { λ r. ⌜ r ≡ isBody (now (body .entry)) ⌝ }
+{
+    match body::read_payment(body) {
+        BodyAnswer::Pays(_) => true,
+        BodyAnswer::Refused(_) => false,
+    }
+}
+
+// The body inside an order or a certificate, uncopied; an empty part of the message where it is neither or has 1 or 2.
+pub fn covered(message: &[u8]) -> &[u8]
+    ensures { λ r. ⌜ now r ≡ covered (now (message .entry)) ⌝ }
+{
+    let mut end = order::order_end(message);
+    if end == fields::LOST {
+        end = certificate::certificate_end(message);
+    }
+    if end == fields::LOST {
+        return octets::cut(message, 0, 0);
+    }
+    let body = octets::cut(message, 3, end - 3);
+    if !is_body(body) {
+        return octets::cut(message, 0, 0);
+    }
+    body
+}
