@@ -5,7 +5,7 @@ use mathlib.Core.List.{List, [], _∷_, _++_}
 use lib.ListN.{length}
 use Rattle.octets.specs.Octets.{one, two, four, number, bytes, cut}
 use Rattle.wire.specs.Numbers.{isAccount, isRecipient, isAmount, isSequence, isIndex}
-use Rattle.wire.specs.Fields.{field, want, wantAll, after, laid}
+use Rattle.wire.specs.Fields.{field, want, wantAll, wantNone, passing}
 use Rattle.wire.specs.declared.fields.Want.{Want}
 use Rattle.wire.specs.declared.fields.Places.{Places}
 use Rattle.wire.specs.declared.kinds.Payment.{Payment}
@@ -17,12 +17,7 @@ bodyFields = want 0x01 1 1 ∷ want 0x02 3 3 ∷ want 0x03 4 4 ∷ want 0x04 2 2
 
 -- where a body's fields end
 abbrev pub bodyPlaces : List ℕ → Places
-bodyPlaces b =
-    let a = after b 0 (want 0x01 1 1) in
-    let b₂ = after b a (want 0x02 3 3) in
-    let c = after b b₂ (want 0x03 4 4) in
-    let d = after b c (want 0x04 2 2) in
-    record { a = a; b = b₂; c = c; d = d; e = after b d (want 0x05 0 32) }
+bodyPlaces b = passing b (want 0x01 1 1) (want 0x02 3 3) (want 0x03 4 4) (want 0x04 2 2) (want 0x05 0 32)
 
 -- what a body says, the note apart. The recipient is a kind, then a two-byte number
 unfoldable pub payment : List ℕ → Payment
@@ -77,11 +72,7 @@ fundingFields = want 0x30 2 2 ∷ want 0x31 1 1 ∷ want 0x32 4 4 ∷ []
 
 -- where its fields end
 abbrev pub fundingPlaces : List ℕ → Places
-fundingPlaces m =
-    let a = after m 0 (want 0x30 2 2) in
-    let b = after m a (want 0x31 1 1) in
-    let c = after m b (want 0x32 4 4) in
-    record { a = a; b = b; c = c; d = c; e = c }
+fundingPlaces m = passing m (want 0x30 2 2) (want 0x31 1 1) (want 0x32 4 4) wantNone wantNone
 
 -- what a funding order says
 unfoldable pub funding : List ℕ → Funding

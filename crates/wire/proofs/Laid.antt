@@ -1,0 +1,252 @@
+-- What each message's layout gives: its fields as laid down, where they end, and its length. Assumes nothing.
+use Prim.Native.Nat.{ℕ, zero, suc, _+_, _-_, _*_, _/_, _<_, _≤_}
+use mathlib.Core.Path.{_≡_, refl, sym, ap, _∙_}
+use mathlib.Core.Bool.{Bool, true, false, _&&_}
+use mathlib.Core.List.{List, [], _∷_}
+use native.Mathlib.Omega.{arith}
+use native.Mathlib.Nat.{lt-irrefl}
+use lib.ListN.{length}
+use lib.Dec.{eqb, lit<}
+use borrow.Author.Tests.{eqb-true, le-leb, ne-eqb}
+use Rattle.octets.specs.Octets.{two, number}
+use Rattle.wire.specs.Numbers.{isNote, isMessage}
+use Rattle.wire.specs.Fields.{need, passing, want, wantNone, lost, wantAll, size, past, pastAll, after, ends, laid}
+use Rattle.wire.specs.Messages.{bodyFields, bodyPlaces, noteIn, orderFields, signatureIn, certificateFields, fundingFields, fundingPlaces}
+use Rattle.wire.specs.Votes.{votes}
+use Rattle.wire.specs.declared.fields.Places.{Places}
+use Rattle.wire.specs.declared.fields.Want.{Want}
+use Rattle.wire.proofs.FieldLaws.{Passed, passed, sized-ends, first-field, first-sized, last-field, laid-ends, length-cut, all-lost}
+
+-- the places that five reads pass, one after another
+pub linked : (m : List ℕ) (p : Places) (a b c d e : Want) → p .a ≡ after m 0 a → p .b ≡ after m (p .a) b → p .c ≡ after m (p .b) c → p .d ≡ after m (p .c) d
+    → p .e ≡ after m (p .d) e → p ≡ passing m a b c d e
+linked m p a b c d e fa fb fc fd fe =
+    let ga = fa in
+    let gb = fb ∙ ap (λ (n : ℕ). after m n b) ga in
+    let gc = fc ∙ ap (λ (n : ℕ). after m n c) gb in
+    let gd = fd ∙ ap (λ (n : ℕ). after m n d) gc in
+    let ge = fe ∙ ap (λ (n : ℕ). after m n e) gd in
+    λ i. record { a = ga i; b = gb i; c = gc i; d = gd i; e = ge i }
+
+-- five fields are laid down where the last of those places is the end of a message that is not too long
+pub passing-laid : (m : List ℕ) (a b c d e : Want) (p : Places) → p ≡ passing m a b c d e
+    → laid m (a ∷ b ∷ c ∷ d ∷ e ∷ []) ≡ (isMessage (length m) && eqb (p .e) (length m))
+unfolding laid ends
+passing-laid m a b c d e p q = ap (λ (x : Places). isMessage (length m) && eqb (x .e) (length m)) (sym q)
+
+-- a message laid down whose first field, of 25 to 57 bytes, ends at `end`
+pub record Enclosed (m : List ℕ) (fields : List Want) (end : ℕ) : Type 0 where
+  pub laidDown : laid m fields ≡ true
+  pub place : end ≡ 3 + size m 0
+  pub least : 25 ≤ size m 0
+  pub most : size m 0 ≤ 57
+  pub whole : 3 + size m 0 ≤ length m
+
+-- two that a test chooses are equal where they are equal once it holds
+pub need-same : {A : Type 0} (t : Bool) (failed x y : A) → (t ≡ true → x ≡ y) → need t failed x ≡ need t failed y
+need-same true failed x y h = h refl
+need-same false failed x y h = refl
+
+-- a message laid down with a field of 25 to 57 bytes first ends that field behind its value
+module _ (m : List ℕ) (tag : ℕ) (others : List Want) (t : 0 < tag) where
+  first-ends : laid m (want tag 25 57 ∷ others) ≡ true → Passed m 0 tag 25 57
+  first-ends h = let e = laid-ends m (want tag 25 57 ∷ others) h in first-field m 0 tag 25 57 others (e .0) t (e .1) .0
+
+  pub first-place : need (laid m (want tag 25 57 ∷ others)) lost (after m 0 (want tag 25 57)) ≡ need (laid m (want tag 25 57 ∷ others)) lost (3 + size m 0)
+  unfolding after
+  first-place = need-same (laid m (want tag 25 57 ∷ others)) lost _ _ (λ h. rw (ne-eqb tag 0 (λ e. omega arith)) (first-ends h .place))
+
+  -- where that end is found the message is laid down; where it is lost it is not
+  pub enclosed : (end : ℕ) → end ≡ need (laid m (want tag 25 57 ∷ others)) lost (3 + size m 0) → (end ≡ lost → ⊥) → Enclosed m (want tag 25 57 ∷ others) end
+  enclosed end e h = go (laid m (want tag 25 57 ∷ others)) refl e
+    where
+      go : (u : Bool) → laid m (want tag 25 57 ∷ others) ≡ u → end ≡ need u lost (3 + size m 0) → Enclosed m (want tag 25 57 ∷ others) end
+      go true l q = let p = first-ends l in record { laidDown = l; place = q; least = p .long; most = p .short; whole = p .whole }
+      go false l q = absurd (h q)
+
+  pub not-enclosed : (end : ℕ) → end ≡ need (laid m (want tag 25 57 ∷ others)) lost (3 + size m 0) → end ≡ lost → laid m (want tag 25 57 ∷ others) ≡ false
+  not-enclosed end e h = go (laid m (want tag 25 57 ∷ others)) refl e
+    where
+      go : (u : Bool) → laid m (want tag 25 57 ∷ others) ≡ u → end ≡ need u lost (3 + size m 0) → u ≡ false
+      go true l q = absurd (let p = first-ends l in lt-irrefl lost (omega (arith, p .short)))
+      go false l q = refl
+
+-- a plan of two fields has nothing behind them
+two-fields : (m : List ℕ) (a b : Want) → laid m (a ∷ b ∷ wantNone ∷ wantNone ∷ wantNone ∷ []) ≡ laid m (a ∷ b ∷ [])
+unfolding laid ends after
+two-fields m a b = refl
+
+-- the end of the first field by a plan of two
+pub planned-end : (m : List ℕ) (tag : ℕ) (second a b c d e : Want) → 0 < tag → a ≡ want tag 25 57 → b ≡ second → c ≡ wantNone → d ≡ wantNone → e ≡ wantNone
+    → need (laid m (a ∷ b ∷ c ∷ d ∷ e ∷ [])) lost (after m 0 a) ≡ need (laid m (want tag 25 57 ∷ second ∷ [])) lost (3 + size m 0)
+planned-end m tag second a b c d e t fa fb fc fd fe =
+    rw (fa, fb, fc, fd, fe, two-fields m (want tag 25 57) second) (first-place m tag (second ∷ []) t)
+
+-- a body's five fields as laid down, the places where they end, and its length
+pub record BodyLaid (b : List ℕ) : Type 0 where
+  pub sender : Passed b 0 0x01 1 1
+  pub recipient : Passed b 4 0x02 3 3
+  pub amount : Passed b 10 0x03 4 4
+  pub sequence : Passed b 17 0x04 2 2
+  pub note : Passed b 22 0x05 0 32
+  pub sender-ends : past b 0 0x01 1 1 ≡ 4
+  pub recipient-ends : past b 4 0x02 3 3 ≡ 10
+  pub amount-ends : past b 10 0x03 4 4 ≡ 17
+  pub sequence-ends : past b 17 0x04 2 2 ≡ 22
+  pub note-ends : past b 22 0x05 0 32 ≡ length b
+  pub least : 25 ≤ length b
+  pub most : length b ≤ 57
+  pub note-size : size b 22 ≡ length b - 25
+
+-- a body with its fields has them at the places 0, 4, 10, 17 and 22
+pub body-laid : (b : List ℕ) → laid b bodyFields ≡ true → BodyLaid b
+body-laid b h =
+    let t = laid-ends b bodyFields h in
+    let l : length b ≤ 1148 = t .0 in
+    let f₁ = first-sized b 0 0x01 1 4 _ l (lit< tt) refl (t .1) in
+    let f₂ = first-sized b 4 0x02 3 10 _ l (lit< tt) refl (f₁ .1) in
+    let f₃ = first-sized b 10 0x03 4 17 _ l (lit< tt) refl (f₂ .1) in
+    let f₄ = first-sized b 17 0x04 2 22 _ l (lit< tt) refl (f₃ .1) in
+    let f₅ = last-field b 22 0x05 0 32 l (lit< tt) (f₄ .1) in
+    let e : 25 + size b 22 ≡ length b = f₅ .1 in
+    let s : size b 22 ≤ 32 = f₅ .0 .short in
+    record {
+      sender = f₁ .0;
+      recipient = f₂ .0;
+      amount = f₃ .0;
+      sequence = f₄ .0;
+      note = f₅ .0;
+      sender-ends = sized-ends b 0 0x01 1 4 (f₁ .0) refl;
+      recipient-ends = sized-ends b 4 0x02 3 10 (f₂ .0) refl;
+      amount-ends = sized-ends b 10 0x03 4 17 (f₃ .0) refl;
+      sequence-ends = sized-ends b 17 0x04 2 22 (f₄ .0) refl;
+      note-ends = f₅ .0 .place ∙ f₅ .1;
+      least = omega arith;
+      most = omega arith;
+      note-size = omega arith;
+    }
+
+-- the places that a reader passes in such a body
+pub body-places : (b : List ℕ) (p : Places) → p ≡ bodyPlaces b → laid b bodyFields ≡ true → (p .a ≡ 4) × (p .b ≡ 10) × (p .c ≡ 17) × (p .d ≡ 22) × (25 ≤ length b)
+unfolding after
+body-places b p e h =
+    let l = body-laid b h in
+    let q : bodyPlaces b ≡ record { a = 4; b = 10; c = 17; d = 22; e = length b }
+    = rw (l .sender-ends, l .recipient-ends, l .amount-ends, l .sequence-ends, l .note-ends) in
+    let r = e ∙ q in
+    (ap (λ (x : Places). x .a) r, ap (λ (x : Places). x .b) r, ap (λ (x : Places). x .c) r, ap (λ (x : Places). x .d) r, l .least)
+
+-- the note of a body with its fields is not too long
+pub note-fits : (b : List ℕ) → laid b bodyFields ≡ true → isNote (length (noteIn b)) ≡ true
+note-fits b h =
+    let l = body-laid b h in
+    let e : length (noteIn b) ≡ length b - 25 = length-cut b 25 (length b - 25) (omega arith) in
+    le-leb (length (noteIn b)) 32 (omega arith)
+
+-- an order's two fields as laid down, and its length
+pub record OrderLaid (m : List ℕ) : Type 0 where
+  pub body : Passed m 0 0x10 25 57
+  pub signature : Passed m (size m 0 + 3) 0x11 64 64
+  pub total : length m ≡ size m 0 + 70
+
+-- an order with its fields has the second one behind the first
+pub order-laid : (m : List ℕ) → laid m orderFields ≡ true → OrderLaid m
+order-laid m h =
+    let t = laid-ends m orderFields h in
+    let l : length m ≤ 1148 = t .0 in
+    let f₁ = first-field m 0 0x10 25 57 _ l (lit< tt) (t .1) in
+    let e : 3 + size m 0 ≡ size m 0 + 3 = omega arith in
+    let f₂ = last-field m (size m 0 + 3) 0x11 64 64 l (lit< tt) (rw e at (f₁ .1)) in
+    record { body = f₁ .0; signature = f₂ .0; total = omega (arith, f₂ .1, f₂ .0 .long, f₂ .0 .short) }
+
+-- the signature of an order with its fields has 64 bytes
+pub signature-fits : (m : List ℕ) → laid m orderFields ≡ true → length (signatureIn m) ≡ 64
+signature-fits m h =
+    let l : length m ≡ number two m 1 + 70 = order-laid m h .total in
+    length-cut m (number two m 1 + 6) 64 (omega arith)
+
+-- a funding order's three fields as laid down, and its length
+pub record FundingLaid (m : List ℕ) : Type 0 where
+  pub index : Passed m 0 0x30 2 2
+  pub account : Passed m 5 0x31 1 1
+  pub amount : Passed m 9 0x32 4 4
+  pub sixteen : length m ≡ 16
+
+-- a funding order with its fields has them at the places 0, 5 and 9
+pub funding-laid : (m : List ℕ) → laid m fundingFields ≡ true → FundingLaid m
+funding-laid m h =
+    let t = laid-ends m fundingFields h in
+    let l : length m ≤ 1148 = t .0 in
+    let f₁ = first-sized m 0 0x30 2 5 _ l (lit< tt) refl (t .1) in
+    let f₂ = first-sized m 5 0x31 1 9 _ l (lit< tt) refl (f₁ .1) in
+    let f₃ = last-field m 9 0x32 4 4 l (lit< tt) (f₂ .1) in
+    record { index = f₁ .0; account = f₂ .0; amount = f₃ .0; sixteen = omega (arith, f₃ .1, f₃ .0 .long, f₃ .0 .short) }
+
+-- the places that a reader passes in such a funding order
+pub funding-places : (m : List ℕ) (p : Places) → p ≡ fundingPlaces m → laid m fundingFields ≡ true → (p .a ≡ 5) × (p .b ≡ 9) × (p .c ≡ 16) × (length m ≡ 16)
+unfolding after
+funding-places m p e h =
+    let l = funding-laid m h in
+    let x : past m 0 0x30 2 2 ≡ 5 = sized-ends m 0 0x30 2 5 (l .index) refl in
+    let y : past m 5 0x31 1 1 ≡ 9 = sized-ends m 5 0x31 1 9 (l .account) refl in
+    let z : past m 9 0x32 4 4 ≡ 16 = sized-ends m 9 0x32 4 16 (l .amount) refl in
+    let q : fundingPlaces m ≡ record { a = 5; b = 9; c = 16; d = 16; e = 16 } = rw (x, y, z) in
+    let r = e ∙ q in
+    (ap (λ (x : Places). x .a) r, ap (λ (x : Places). x .b) r, ap (λ (x : Places). x .c) r, l .sixteen)
+
+-- n votes stand from `at` to the end of the message, one field 21 after the other
+abbrev pub Votes : ℕ → List ℕ → ℕ → Type 0
+Votes zero m at = at ≡ length m
+Votes (suc n) m at = (past m at 0x21 65 65 ≡ at + 68) × Votes n m (at + 68)
+
+-- n votes take 68 * n bytes
+pub votes-length : (n : ℕ) (m : List ℕ) (at : ℕ) → Votes n m at → length m ≡ at + 68 * n
+votes-length zero m at v = omega arith
+votes-length (suc n) m at v = omega (arith, votes-length n m (at + 68) (v .1))
+
+-- a field 21 that was passed takes 68 bytes
+vote-passed : (m : List ℕ) (at : ℕ) → (past m at 0x21 65 65 ≡ lost → ⊥) → past m at 0x21 65 65 ≡ at + 68
+vote-passed m at h = let p : Passed m at 0x21 65 65 = passed m at 0x21 65 65 h in omega arith
+
+-- what was passed up to the end of the message is some number of votes
+some-votes : (fuel : ℕ) (m : List ℕ) (at : ℕ) → length m < lost → (pastAll fuel m at 0x21 65 65 ≡ lost → ⊥) → (n : ℕ) × Votes n m at
+unfolding pastAll
+some-votes zero m at short h = go (eqb at (length m)) refl
+  where
+    go : (t : Bool) → eqb at (length m) ≡ t → (n : ℕ) × Votes n m at
+    go true e = (0, eqb-true at (length m) e)
+    go false e = absurd (h (rw e))
+some-votes (suc fuel) m at short h = go (eqb at (length m)) refl (some-votes fuel m (at + 68) short)
+  where
+    go : (t : Bool) → eqb at (length m) ≡ t → ((pastAll fuel m (at + 68) 0x21 65 65 ≡ lost → ⊥) → (n : ℕ) × Votes n m (at + 68)) → (n : ℕ) × Votes n m at
+    go true e again = (0, eqb-true at (length m) e)
+    go false e again =
+        let p : past m at 0x21 65 65 ≡ at + 68 = vote-passed m at (λ l. h (rw (e, l) (all-lost fuel m lost 0x21 65 65 short short))) in
+        let r : (n : ℕ) × Votes n m (at + 68) = again (λ l. h (rw (e, p) l)) in
+        (suc (r .0), (p, r .1))
+
+-- votes up to the end of the message are as many as its bytes say
+votes-count : (n : ℕ) (m : List ℕ) (at : ℕ) → Votes n m at → n ≡ (length m - at) / 68
+votes-count n m at v = omega (arith, votes-length n m at v)
+
+-- what was passed up to the end of the message is votes, 68 bytes each
+pub votes-passed : (fuel : ℕ) (m : List ℕ) (at : ℕ) → length m < lost → (pastAll fuel m at 0x21 65 65 ≡ lost → ⊥) → Votes ((length m - at) / 68) m at
+votes-passed fuel m at short h = let v = some-votes fuel m at short h in rw (← (votes-count (v .0) m at (v .1))) (v .1)
+
+-- a message with the fields of a certificate: the body's field, then votes to its end
+pub record CertificateLaid (m : List ℕ) : Type 0 where
+  pub short : length m ≤ 1148
+  pub body : Passed m 0 0x20 25 57
+  pub run : Votes (votes m) m (number two m 1 + 3)
+
+-- a message whose fields the reader finds in order is such a message
+pub certificate-laid : (m : List ℕ) → laid m certificateFields ≡ true → CertificateLaid m
+unfolding ends after
+certificate-laid m h =
+    let t = laid-ends m certificateFields h in
+    let l : length m ≤ 1148 = t .0 in
+    let p = first-field m 0 0x20 25 57 (wantAll 0x21 65 ∷ []) l (lit< tt) (t .1) in
+    let at = number two m 1 + 3 in
+    let e : 0 + 3 + number two m 1 ≡ at = omega arith in
+    let end : pastAll (length m) m at 0x21 65 65 ≡ length m = rw e at (p .1) in
+    record { short = l; body = p .0; run = votes-passed (length m) m at (omega arith) (λ z. omega arith) }

@@ -1,0 +1,16 @@
+use borrow.Author.Tests.{lt-ltb, le-ltb, le-leb, lt-leb, eq-eqb, ne-eqb, not-true, not-false}
+use Rattle.wire.proofs.fields.whole.Statement.{statement}
+use Rattle.wire.proofs.fields.whole.Tie as tie
+use Rattle.wire.proofs.fields.whole.Reads as reads
+use Rattle.wire.proofs.fields.whole.Lts as lts
+
+-- src/fields.rt:187:9
+returns : tie.Need-returns
+returns c = simp (lt-leb _ _ (c .if1 .taken))
+
+-- src/fields.rt:183:1
+returns-2 : tie.Need-returns-2
+returns-2 c = simp (le-leb _ _ (c .if1 .left))
+
+pub whole-spec : {M : Type 1} → statement M
+whole-spec = tie.close (tie.spec returns returns-2)

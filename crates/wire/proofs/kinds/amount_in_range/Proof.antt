@@ -1,0 +1,16 @@
+use borrow.Author.Tests.{lt-ltb, le-ltb, le-leb, lt-leb, eq-eqb, ne-eqb, not-true, not-false}
+use Rattle.wire.proofs.kinds.amount_in_range.Statement.{statement}
+use Rattle.wire.proofs.kinds.amount_in_range.Tie as tie
+use Rattle.wire.proofs.kinds.amount_in_range.Reads as reads
+use Rattle.wire.proofs.kinds.amount_in_range.Lts as lts
+
+-- src/kinds.rt:52:9
+returns : tie.Need-returns
+returns c = simp (lt-leb _ _ (c .if1 .taken))
+
+-- src/kinds.rt:48:1
+returns-2 : tie.Need-returns-2
+returns-2 c = simp (le-leb _ _ (c .if1 .left))
+
+pub amount-in-range-spec : {M : Type 1} → statement M
+amount-in-range-spec = tie.close (tie.spec returns returns-2)

@@ -1,0 +1,30 @@
+use mathlib.Core.Bool.{false}
+use Prim.Native.Nat.{ℕ, zero, suc}
+use Rattle.wire.specs.Numbers.{isRecipient}
+use mathlib.Core.Path.{_≡_, refl, sym}
+use borrow.Author.Tests.{lt-ltb, le-ltb, le-leb, lt-leb, eq-eqb, ne-eqb, not-true, not-false}
+use Rattle.wire.proofs.kinds.recipient_in_range.Statement.{statement}
+use Rattle.wire.proofs.kinds.recipient_in_range.Tie as tie
+use Rattle.wire.proofs.kinds.recipient_in_range.Reads as reads
+use Rattle.wire.proofs.kinds.recipient_in_range.Lts as lts
+
+-- a kind that is neither 0 nor 1 has no range
+no-kind : (kind n : ℕ) → (kind ≡ 0 → ⊥) → (kind ≡ 1 → ⊥) → isRecipient kind n ≡ false
+no-kind zero n a b = absurd (a refl)
+no-kind (suc zero) n a b = absurd (b refl)
+no-kind (suc (suc kind)) n a b = refl
+
+-- src/kinds.rt:61:9
+returns : tie.Need-returns
+returns c = rw (c .if1 .taken)
+
+-- src/kinds.rt:64:9
+returns-2 : tie.Need-returns-2
+returns-2 c = rw (c .if2 .taken)
+
+-- src/kinds.rt:57:1
+returns-3 : tie.Need-returns-3
+returns-3 c = sym (no-kind (c .before .before .args .kind) (c .before .before .args .number) (c .before .if1 .left) (c .if2 .left))
+
+pub recipient-in-range-spec : {M : Type 1} → statement M
+recipient-in-range-spec = tie.close (tie.spec returns returns-2 returns-3)
