@@ -1,7 +1,8 @@
 -- What each message's layout gives: its fields as laid down, where they end, and its length. Assumes nothing.
+use Rattle.wire.specs.Steps.{bodyPlaces, fundingPlaces, passing}
 use Prim.Native.Nat.{ℕ, zero, suc, _+_, _-_, _*_, _/_, _<_, _≤_}
 use mathlib.Core.Path.{_≡_, refl, sym, ap, _∙_}
-use mathlib.Core.Bool.{Bool, true, false, _&&_}
+use mathlib.Core.Bool.{Bool, true, false, _&&_, _||_, false≢true}
 use mathlib.Core.List.{List, [], _∷_}
 use native.Mathlib.Omega.{arith}
 use native.Mathlib.Nat.{lt-irrefl}
@@ -10,8 +11,8 @@ use lib.Dec.{eqb, lit<}
 use borrow.Author.Tests.{eqb-true, le-leb, ne-eqb}
 use Rattle.octets.specs.Octets.{two, number}
 use Rattle.wire.specs.Numbers.{isNote, isMessage}
-use Rattle.wire.specs.Fields.{need, passing, want, wantNone, lost, wantAll, size, past, pastAll, after, ends, laid}
-use Rattle.wire.specs.Messages.{bodyFields, bodyPlaces, noteIn, orderFields, signatureIn, certificateFields, fundingFields, fundingPlaces}
+use Rattle.wire.specs.Fields.{need, want, wantNone, lost, wantAll, size, past, pastAll, after, ends, laid}
+use Rattle.wire.specs.Messages.{bodyFields, noteIn, orderFields, signatureIn, certificateFields, fundingFields}
 use Rattle.wire.specs.Votes.{votes}
 use Rattle.wire.specs.declared.fields.Places.{Places}
 use Rattle.wire.specs.declared.fields.Want.{Want}
@@ -81,6 +82,30 @@ pub planned-end : (m : List ℕ) (tag : ℕ) (second a b c d e : Want) → 0 < t
     → need (laid m (a ∷ b ∷ c ∷ d ∷ e ∷ [])) lost (after m 0 a) ≡ need (laid m (want tag 25 57 ∷ second ∷ [])) lost (3 + size m 0)
 planned-end m tag second a b c d e t fa fb fc fd fe =
     rw (fa, fb, fc, fd, fe, two-fields m (want tag 25 57) second) (first-place m tag (second ∷ []) t)
+
+-- the same of a message laid down in one of two ways
+module _ (m : List ℕ) (tag tag′ : ℕ) (others others′ : List Want) (t : 0 < tag) (t′ : 0 < tag′) where
+  either-enclosed : (u v : Bool) → laid m (want tag 25 57 ∷ others) ≡ u → laid m (want tag′ 25 57 ∷ others′) ≡ v → (u || v) ≡ true → (size m 0 ≤ 57) × (3 + size m 0 ≤ length m)
+  either-enclosed true v l l′ h = let p = first-ends m tag others t l in (p .short, p .whole)
+  either-enclosed false true l l′ h = let p = first-ends m tag′ others′ t′ l′ in (p .short, p .whole)
+  either-enclosed false false l l′ h = absurd (false≢true h)
+
+  abbrev either : Bool
+  either = laid m (want tag 25 57 ∷ others) || laid m (want tag′ 25 57 ∷ others′)
+
+  pub either-found : (end : ℕ) → end ≡ need either lost (3 + size m 0) → (end ≡ lost → ⊥) → (either ≡ true) × (end ≡ 3 + size m 0) × (3 + size m 0 ≤ length m)
+  either-found end e h = go either refl e
+    where
+      go : (u : Bool) → either ≡ u → end ≡ need u lost (3 + size m 0) → (either ≡ true) × (end ≡ 3 + size m 0) × (3 + size m 0 ≤ length m)
+      go true l q = (l, q, either-enclosed _ _ refl refl l .1)
+      go false l q = absurd (h q)
+
+  pub either-lost : (end : ℕ) → end ≡ need either lost (3 + size m 0) → end ≡ lost → either ≡ false
+  either-lost end e h = go either refl e
+    where
+      go : (u : Bool) → either ≡ u → end ≡ need u lost (3 + size m 0) → either ≡ false
+      go true l q = absurd (let p = either-enclosed _ _ refl refl l in lt-irrefl lost (omega arith))
+      go false l q = l
 
 -- a body's five fields as laid down, the places where they end, and its length
 pub record BodyLaid (b : List ℕ) : Type 0 where

@@ -10,7 +10,6 @@ use Rattle.octets.specs.Octets.{one, two, number, bytes}
 use Rattle.wire.specs.Numbers.{isMessage}
 use Rattle.wire.specs.declared.fields.Want.{Want}
 use Rattle.wire.specs.declared.fields.Plan.{Plan}
-use Rattle.wire.specs.declared.fields.Places.{Places}
 use Rattle.wire.specs.declared.fields.Reader.{Reader}
 
 -- what follows where a test holds; what stands before it where the test fails
@@ -81,12 +80,3 @@ readerAt m at = record { message = m; at = at }
 -- the fields of a plan
 abbrev pub planned : Plan → List Want
 planned plan = plan .a ∷ plan .b ∷ plan .c ∷ plan .d ∷ plan .e ∷ []
-
--- where a reader stands after each of five fields
-abbrev pub passing : List ℕ → Want → Want → Want → Want → Want → Places
-passing m a b c d e =
-    let p₁ = after m 0 a in
-    let p₂ = after m p₁ b in
-    let p₃ = after m p₂ c in
-    let p₄ = after m p₃ d in
-    record { a = p₁; b = p₂; c = p₃; d = p₄; e = after m p₄ e }

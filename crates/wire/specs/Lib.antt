@@ -6,3 +6,4 @@ pub mod Refusals
 pub mod Votes
 pub mod Readers
 pub mod Writers
+pub mod Steps

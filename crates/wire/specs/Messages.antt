@@ -5,19 +5,14 @@ use mathlib.Core.List.{List, [], _∷_, _++_}
 use lib.ListN.{length}
 use Rattle.octets.specs.Octets.{one, two, four, number, bytes, cut}
 use Rattle.wire.specs.Numbers.{isAccount, isRecipient, isAmount, isSequence, isIndex}
-use Rattle.wire.specs.Fields.{field, want, wantAll, wantNone, passing}
+use Rattle.wire.specs.Fields.{field, want, wantAll}
 use Rattle.wire.specs.declared.fields.Want.{Want}
-use Rattle.wire.specs.declared.fields.Places.{Places}
 use Rattle.wire.specs.declared.kinds.Payment.{Payment}
 use Rattle.wire.specs.declared.kinds.Funding.{Funding}
 
 -- Body: 01 sender, length 1. 02 recipient, length 3. 03 amount, length 4. 04 sequence, length 2. 05 note, length 0..32
 abbrev pub bodyFields : List Want
 bodyFields = want 0x01 1 1 ∷ want 0x02 3 3 ∷ want 0x03 4 4 ∷ want 0x04 2 2 ∷ want 0x05 0 32 ∷ []
-
--- where a body's fields end
-abbrev pub bodyPlaces : List ℕ → Places
-bodyPlaces b = passing b (want 0x01 1 1) (want 0x02 3 3) (want 0x03 4 4) (want 0x04 2 2) (want 0x05 0 32)
 
 -- what a body says, the note apart. The recipient is a kind, then a two-byte number
 unfoldable pub payment : List ℕ → Payment
@@ -69,10 +64,6 @@ orderBytes p note signature = field 0x10 (bodyBytes p note) ++ field 0x11 signat
 -- Funding order: 30 index, length 2. 31 account, length 1. 32 amount, length 4
 abbrev pub fundingFields : List Want
 fundingFields = want 0x30 2 2 ∷ want 0x31 1 1 ∷ want 0x32 4 4 ∷ []
-
--- where its fields end
-abbrev pub fundingPlaces : List ℕ → Places
-fundingPlaces m = passing m (want 0x30 2 2) (want 0x31 1 1) (want 0x32 4 4) wantNone wantNone
 
 -- what a funding order says
 unfoldable pub funding : List ℕ → Funding

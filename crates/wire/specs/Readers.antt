@@ -11,9 +11,6 @@ use Rattle.wire.specs.Messages.{bodyFields, payment, isPayment, noteIn, 
 use Rattle.wire.specs.Votes.{Committee, committee, votes, signersIn, known, rising, good}
 use Rattle.wire.specs.Refusals.{Said, gives, refuses, paymentValues, fundingValues, bodySaid}
 use Rattle.wire.specs.declared.kinds.Note.{Note}
-use Rattle.wire.specs.declared.kinds.Payment.{Payment}
-use Rattle.wire.specs.declared.votes.VotesAnswer.{VotesAnswer}
-use Rattle.wire.specs.declared.answers.CertificateAnswer.{CertificateAnswer}
 use Rattle.wire.specs.declared.answers.BodyRead.{BodyRead}
 use Rattle.wire.specs.declared.answers.OrderRead.{OrderRead}
 
@@ -75,11 +72,6 @@ readFunding m =
     need (laid m fundingFields) (refuses 1)
     (need (isFunding (funding m)) (refuses 2)
     (gives (fundingValues (funding m))))
-
--- a payment with the number of its voters, or what its votes are refused for
-abbrev pub votedFor : Payment → VotesAnswer → CertificateAnswer
-votedFor p (VotesAnswer.Counted n) = CertificateAnswer.Certifies p n
-votedFor p (VotesAnswer.Refused r) = CertificateAnswer.Refused r
 
 -- the certificate reader takes f and refuses 2 for f, then 1, 2, 5, 6, 7, without verdicts
 unfoldable pub readCertificateOf : Committee → List ℕ → Said

@@ -1,17 +1,11 @@
 -- 01, Numbers and Messages: committees and the votes of a certificate.
-use Prim.Native.Nat.{ℕ, zero, suc, _+_, _-_, _*_, _/_, _%_, _^_}
-use mathlib.Core.Path.{_≡_}
-use mathlib.Core.Bool.{Bool, true, _&&_, cond}
+use Prim.Native.Nat.{ℕ, zero, suc, _+_, _-_, _*_, _/_}
+use mathlib.Core.Bool.{Bool, true, _&&_}
 use mathlib.Core.List.{List, [], _∷_, _++_}
 use lib.ListN.{length, take, drop}
-use lib.Dec.{leb, ltb, eqb}
+use lib.Dec.{leb, eqb}
 use Rattle.octets.specs.Octets.{one, two, number}
-use lib.Bits.{bitOr}
-use lib.Count.{ones}
-use Rattle.wire.specs.Fields.{need, field}
-use Rattle.wire.specs.Refusals.{Said, gives, refuses, refusalNumber}
-use Rattle.wire.specs.declared.votes.Tally.{Tally}
-use Rattle.wire.specs.declared.votes.VotesAnswer.{VotesAnswer}
+use Rattle.wire.specs.Fields.{field}
 
 -- who may vote: the last machine number, and which machines together are enough
 pub record Committee : Type 0 where
@@ -44,34 +38,6 @@ rising ks = risingFrom 0 ks
 unfoldable pub good : List ℕ → Bool
 good [] = true
 good (v ∷ vs) = eqb v 1 && good vs
-
--- the tally of votes, one more at a time: a known machine is a bit of the mask
-unfoldable pub counted : Tally → ℕ → ℕ → Tally
-counted t k last = record {
-  known = t .known && leb k last;
-  rising = t .rising && leb (t .least) k;
-  least = k + 1;
-  mask = cond (leb k last) (bitOr (t .mask) (2 ^ k)) (t .mask);
-}
-
--- what the tally of machine numbers says; the bits of its mask are as many as they are, once they are known and rise
-pub record Tallied (t : Tally) (last : ℕ) (ks : List ℕ) : Type 0 where
-  pub allKnown : t .known ≡ known last ks
-  pub allRising : t .rising ≡ rising ks
-  pub count : known last ks ≡ true → rising ks ≡ true → ones (t .mask) ≡ length ks
-
--- over all votes 5, then 6, then 4, then 7
-unfoldable pub votesJudged : ℕ → Tally → Bool → Said
-votesJudged f t ok =
-    need (t .known) (refuses 5)
-    (need (t .rising) (refuses 6)
-    (need ok (refuses 4)
-    (need (leb (2 * f + 1) (ones (t .mask))) (refuses 7)
-    (gives (ones (t .mask) ∷ [])))))
-
-abbrev pub votesSaid : VotesAnswer → Said
-votesSaid (VotesAnswer.Counted n) = gives (n ∷ [])
-votesSaid (VotesAnswer.Refused r) = refuses (refusalNumber r)
 
 -- how many votes a certificate has, and whose: each takes 68 bytes behind the body's field
 abbrev pub votes : List ℕ → ℕ

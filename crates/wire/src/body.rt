@@ -5,7 +5,8 @@ ghost use Prim.Native.Nat.{_+_, _<_, _≤_, _^_, _-_};
 ghost use lib.ListN.{length};
 ghost use Rattle.octets.specs.Octets as octets;
 ghost use Rattle.wire.specs.Fields.{laid};
-ghost use Rattle.wire.specs.Messages.{bodyFields, bodyPlaces, payment, noteIn};
+ghost use Rattle.wire.specs.Messages.{bodyFields, payment};
+ghost use Rattle.wire.specs.Steps.{bodyPlaces};
 ghost use Rattle.wire.specs.Refusals.{bodySaid};
 ghost use Rattle.wire.specs.Readers.{readPayment, noteHeld, bodyShown, readBody};
 use crate::answers::BodyAnswer;
@@ -69,7 +70,7 @@ pub fn read_payment(body: &[u8]) -> BodyAnswer
 }
 
 // A part of at most 32 bytes as a note.
-pub fn note_of(part: &[u8]) -> Note
+pub(crate) fn note_of(part: &[u8]) -> Note
     requires { ⌜ length (now part) ≤ 32 ⌝ }
     ensures { λ r. ⌜ r ≡ noteHeld (now (part .entry)) ⌝ }
 {

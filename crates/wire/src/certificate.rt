@@ -4,7 +4,8 @@ ghost use Prim.Native.Nat.{_+_};
 ghost use Rattle.wire.specs.Fields.{need, laid, lost, size};
 ghost use Rattle.wire.specs.Messages.{certificateFields};
 ghost use Rattle.wire.specs.Refusals.{certificateSaid};
-ghost use Rattle.wire.specs.Readers.{votedFor, readCertificate, judged};
+ghost use Rattle.wire.specs.Readers.{readCertificate, judged};
+ghost use Rattle.wire.specs.Steps.{certificateBodySaid, certificateBody, votedFor};
 use crate::answers::BodyAnswer;
 use crate::answers::CertificateAnswer;
 use crate::answers::Refusal;
@@ -18,7 +19,7 @@ use crate::votes;
 use crate::votes::VotesAnswer;
 
 // The end of the body's field where the message is laid out as a certificate, or LOST.
-pub fn certificate_end(message: &[u8]) -> usize
+pub(crate) fn certificate_end(message: &[u8]) -> usize
     ensures { λ r. ⌜ r ≡ need (laid (now (message .entry)) certificateFields) lost (3 + size (now (message .entry)) 0) ⌝ }
 {
     let plan = Plan {
@@ -29,6 +30,28 @@ pub fn certificate_end(message: &[u8]) -> usize
         e: Want::none(),
     };
     order::enclosed(message, plan)
+}
+
+// A certificate's payment and where its votes start.
+pub enum CertificateBody {
+    Body(Payment, usize),
+    Refused(Refusal),
+}
+
+fn certificate_body(f: u64, message: &[u8]) -> CertificateBody
+    ensures { λ r. ⌜ certificateBodySaid r ≡ certificateBody f (now (message .entry)) ⌝ }
+{
+    if f > 5 {
+        return CertificateBody::Refused(Refusal::OutOfRange);
+    }
+    let end = certificate_end(message);
+    if end == fields::LOST {
+        return CertificateBody::Refused(Refusal::Malformed);
+    }
+    match body::read_payment(octets::cut(message, 3, end - 3)) {
+        BodyAnswer::Refused(refusal) => CertificateBody::Refused(refusal),
+        BodyAnswer::Pays(payment) => CertificateBody::Body(payment, end),
+    }
 }
 
 // The payment with the number of its voters, or what the votes were refused for.
@@ -45,16 +68,9 @@ fn certified(payment: Payment, votes: VotesAnswer) -> CertificateAnswer
 pub fn read_certificate(f: u64, message: &[u8]) -> CertificateAnswer
     ensures { λ r. ⌜ certificateSaid r ≡ readCertificate f (now (message .entry)) ⌝ }
 {
-    if f > 5 {
-        return CertificateAnswer::Refused(Refusal::OutOfRange);
-    }
-    let end = certificate_end(message);
-    if end == fields::LOST {
-        return CertificateAnswer::Refused(Refusal::Malformed);
-    }
-    match body::read_payment(octets::cut(message, 3, end - 3)) {
-        BodyAnswer::Refused(refusal) => CertificateAnswer::Refused(refusal),
-        BodyAnswer::Pays(payment) => {
+    match certificate_body(f, message) {
+        CertificateBody::Refused(refusal) => CertificateAnswer::Refused(refusal),
+        CertificateBody::Body(payment, end) => {
             let n = (message.len() - end) / 68;
             let t = votes::tally_of(message, end + 3, 68, n, 3 * f);
             certified(payment, votes::judge_votes(f, t, true))
@@ -66,16 +82,9 @@ pub fn read_certificate(f: u64, message: &[u8]) -> CertificateAnswer
 pub fn judge_certificate(f: u64, message: &[u8], verdicts: &[u8]) -> CertificateAnswer
     ensures { λ r. ⌜ certificateSaid r ≡ judged f (now (message .entry)) (now (verdicts .entry)) ⌝ }
 {
-    if f > 5 {
-        return CertificateAnswer::Refused(Refusal::OutOfRange);
-    }
-    let end = certificate_end(message);
-    if end == fields::LOST {
-        return CertificateAnswer::Refused(Refusal::Malformed);
-    }
-    match body::read_payment(octets::cut(message, 3, end - 3)) {
-        BodyAnswer::Refused(refusal) => CertificateAnswer::Refused(refusal),
-        BodyAnswer::Pays(payment) => {
+    match certificate_body(f, message) {
+        CertificateBody::Refused(refusal) => CertificateAnswer::Refused(refusal),
+        CertificateBody::Body(payment, end) => {
             let n = (message.len() - end) / 68;
             if verdicts.len() != n {
                 return CertificateAnswer::Refused(Refusal::VerdictCount);

@@ -2,7 +2,8 @@
 ghost use mathlib.Core.Path.{_≡_};
 ghost use mathlib.Core.Bool.{true};
 ghost use Rattle.wire.specs.Fields.{laid};
-ghost use Rattle.wire.specs.Messages.{fundingFields, fundingPlaces, funding};
+ghost use Rattle.wire.specs.Messages.{fundingFields, funding};
+ghost use Rattle.wire.specs.Steps.{fundingPlaces};
 ghost use Rattle.wire.specs.Refusals.{fundingSaid};
 ghost use Rattle.wire.specs.Readers.{readFunding};
 use crate::answers::FundingAnswer;

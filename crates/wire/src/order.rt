@@ -15,7 +15,7 @@ use crate::fields::Plan;
 use crate::fields::Want;
 
 // The end of the first field of a message that is laid out by the plan, or LOST.
-pub fn enclosed(message: &[u8], plan: Plan) -> usize
+pub(crate) fn enclosed(message: &[u8], plan: Plan) -> usize
     ensures { λ r. ⌜ r ≡ need (laid (now (message .entry)) (planned plan)) lost (after (now (message .entry)) 0 (plan .a)) ⌝ }
 {
     let p = fields::read_fields(message, plan);
@@ -27,7 +27,7 @@ pub fn enclosed(message: &[u8], plan: Plan) -> usize
 }
 
 // The end of the body's field where the message is laid out as an order, or LOST.
-pub fn order_end(message: &[u8]) -> usize
+pub(crate) fn order_end(message: &[u8]) -> usize
     ensures { λ r. ⌜ r ≡ need (laid (now (message .entry)) orderFields) lost (3 + size (now (message .entry)) 0) ⌝ }
 {
     let plan = Plan {

@@ -3,7 +3,8 @@ ghost use mathlib.Core.Path.{_≡_};
 ghost use Prim.Native.Nat.{_≤_, _<_, _+_, _*_, _^_};
 ghost use mathlib.Core.Bool.{true, _&&_};
 ghost use lib.ListN.{length};
-ghost use Rattle.wire.specs.Votes.{signers, good, committee, counted, Tallied, votesJudged, votesSaid};
+ghost use Rattle.wire.specs.Votes.{signers, good};
+ghost use Rattle.wire.specs.Steps.{counted, Tallied, votesJudged, votesSaid};
 use crate::answers::Refusal;
 use crate::kinds::Machine;
 
@@ -50,7 +51,7 @@ fn count_in(t: Tally, machine: Machine, last: u64) -> Tally
 }
 
 // The tally of n votes whose machine numbers stand at `at` and every `step` bytes after it.
-pub fn tally_of(s: &[u8], at: usize, step: usize, n: usize, last: u64) -> Tally
+pub(crate) fn tally_of(s: &[u8], at: usize, step: usize, n: usize, last: u64) -> Tally
     requires { ⌜ (at + step * n < length (now s) + step) × (step ≤ 68) × (last < 16) ⌝ }
     ensures { λ r. ⌜ Tallied r last (signers (now (s .entry)) at step n) ⌝ }
 {
@@ -71,7 +72,7 @@ pub fn tally_of(s: &[u8], at: usize, step: usize, n: usize, last: u64) -> Tally
 }
 
 // Whether every verdict is 1.
-pub fn all_good(verdicts: &[u8]) -> bool
+pub(crate) fn all_good(verdicts: &[u8]) -> bool
     ensures { λ r. ⌜ r ≡ good (now (verdicts .entry)) ⌝ }
 {
     let mut i = 0;
@@ -85,7 +86,7 @@ pub fn all_good(verdicts: &[u8]) -> bool
 }
 
 // Over all votes 5, then 6, then 4, then 7. Bits are counted, not votes.
-pub fn judge_votes(f: u64, t: Tally, good: bool) -> VotesAnswer
+pub(crate) fn judge_votes(f: u64, t: Tally, good: bool) -> VotesAnswer
     requires { ⌜ f ≤ 5 ⌝ }
     ensures { λ r. ⌜ votesSaid r ≡ votesJudged f t good ⌝ }
 {

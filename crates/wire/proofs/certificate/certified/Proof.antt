@@ -1,3 +1,5 @@
+use Rattle.wire.specs.Steps.{votedFor}
+use mathlib.Core.Path.{_≡_, refl, sym, ap, _∙_}
 use borrow.Author.Needs.{needs}
 use Rattle.wire.proofs.certificate.certified.Statement.{statement}
 use Rattle.wire.proofs.certificate.certified.Tie as tie
@@ -14,11 +16,11 @@ enum-known-votes-2 c = search needs
 
 -- src/certificate.rt:35:1
 returns : tie.Need-returns
-returns c = ?
+returns c = ap (votedFor (c .before .before .before .args .payment)) (sym (c .before .votes .given .1))
 
 -- src/certificate.rt:35:1
 returns-2 : tie.Need-returns-2
-returns-2 c = ?
+returns-2 c = ap (votedFor (c .before .before .before .args .payment)) (sym (c .before .votes2 .given .1))
 
 pub certified-spec : {M : Type 1} → statement M
 certified-spec = tie.close (tie.spec enum-known-votes enum-known-votes-2 returns returns-2)

@@ -1,33 +1,28 @@
+use Rattle.wire.specs.Steps.{Tallied, votesJudged}
+use Rattle.wire.specs.Readers.{readCertificateOf, judgedBy}
+use Rattle.wire.specs.Votes.{votes, signersIn, good}
+use Rattle.wire.specs.Refusals.{certificateSaid}
+use Rattle.wire.proofs.Onward.{body-onward, opened, votes-certify}
+use lib.ListN.{length}
+use native.Mathlib.Omega.{arith}
+use Prim.Native.Nat.{ℕ, _+_, _-_, _*_, _/_}
+use mathlib.Core.Bool.{true}
+use mathlib.Core.List.{List, [], _∷_}
+use borrow.Author.Tests.{lt-ltb, le-ltb, le-leb, lt-leb, eq-eqb, ne-eqb, not-true, not-false}
+use mathlib.Core.Path.{_≡_, refl, sym, ap, _∙_}
 use borrow.Author.Needs.{needs}
 use Rattle.wire.proofs.certificate.judge_certificate.Statement.{statement}
 use Rattle.wire.proofs.certificate.judge_certificate.Tie as tie
 use Rattle.wire.proofs.certificate.judge_certificate.Reads as reads
 use Rattle.wire.proofs.certificate.judge_certificate.Lts as lts
-use Rattle.octets.proofs.cut.Reads as cut-reads
-use Rattle.wire.proofs.body.read_payment.Reads as read-payment-reads
-use Rattle.wire.proofs.certificate.certificate_end.Reads as certificate-end-reads
+use Rattle.wire.proofs.certificate.certificate_body.Reads as certificate-body-reads
 use Rattle.wire.proofs.certificate.certified.Reads as certified-reads
 use Rattle.wire.proofs.votes.all_good.Reads as all-good-reads
 use Rattle.wire.proofs.votes.judge_votes.Reads as judge-votes-reads
 use Rattle.wire.proofs.votes.tally_of.Reads as tally-of-reads
 
-returns : tie.Need-returns
-returns c = ?
-
-certificate-end-requires : tie.Need-certificate-end-requires
-certificate-end-requires c κs = search needs
-
-returns-2 : tie.Need-returns-2
-returns-2 c = ?
-
-sub-cut : tie.Need-sub-cut
-sub-cut c = ?
-
-cut-requires : tie.Need-cut-requires
-cut-requires c κs = ?
-
-read-payment-requires : tie.Need-read-payment-requires
-read-payment-requires c κs = search needs
+certificate-body-requires : tie.Need-certificate-body-requires
+certificate-body-requires c κs = search needs
 
 enum-known-refusal : tie.Need-enum-known-refusal
 enum-known-refusal c = search needs
@@ -36,54 +31,59 @@ enum-known-payment : tie.Need-enum-known-payment
 enum-known-payment c = search needs
 
 sub-n : tie.Need-sub-n
-sub-n c = ?
+sub-n c = let d = opened (c .before .before .before .before .before .before .args .f) (c .before .before .before .before .before .before .args .message .now) (rw (c .before .payment .given .1) at (c .before .before .before .certificate-body .ensures)) in omega arith
 
-returns-3 : tie.Need-returns-3
-returns-3 c = ?
+returns : tie.Need-returns
+unfolding judgedBy
+returns c = let m = c .before .before .before .before .before .before .before .args .message .now in
+    let d = opened (c .before .before .before .before .before .before .before .args .f) (c .before .before .before .before .before .before .before .args .message .now) (rw (c .before .before .payment .given .1) at (c .before .before .before .before .certificate-body .ensures)) in
+    simp (d .faults, d .laidDown, d .formed, d .inRange, ne-eqb (length (c .before .before .before .before .before .before .before .args .verdicts .now)) (votes m) (λ e. c .if1 .taken (e ∙ sym (d .count))))
 
 add-tally-of : tie.Need-add-tally-of
-add-tally-of c = search needs
+add-tally-of c = let d = opened (c .before .before .before .before .before .before .before .args .f) (c .before .before .before .before .before .before .before .args .message .now) (rw (c .before .before .payment .given .1) at (c .before .before .before .before .certificate-body .ensures)) in omega arith
 
 mul-tally-of : tie.Need-mul-tally-of
-mul-tally-of c = search needs
+mul-tally-of c = let d = opened (c .before .before .before .before .before .before .before .args .f) (c .before .before .before .before .before .before .before .args .message .now) (rw (c .before .before .payment .given .1) at (c .before .before .before .before .certificate-body .ensures)) in omega arith
 
 tally-of-requires : tie.Need-tally-of-requires
-tally-of-requires c κs = ?
+tally-of-requires c κs = let d = opened (c .before .before .before .before .before .before .before .args .f) (c .before .before .before .before .before .before .before .args .message .now) (rw (c .before .before .payment .given .1) at (c .before .before .before .before .certificate-body .ensures)) in omega arith
 
 all-good-requires : tie.Need-all-good-requires
 all-good-requires c κs = search needs
 
 judge-votes-requires : tie.Need-judge-votes-requires
-judge-votes-requires c κs = search needs
+judge-votes-requires c κs = let d = opened (c .before .before .before .before .before .before .before .before .before .args .f) (c .before .before .before .before .before .before .before .before .before .args .message .now) (rw (c .before .before .before .before .payment .given .1) at (c .before .before .before .before .before .before .certificate-body .ensures)) in omega arith
 
 certified-requires : tie.Need-certified-requires
 certified-requires c κs = search needs
 
-returns-4 : tie.Need-returns-4
-returns-4 c = ?
+returns-2 : tie.Need-returns-2
+unfolding judgedBy
+returns-2 c = body-onward _ (c .before .before .before .before .before .before .args .f) (c .before .before .before .before .before .before .args .message .now) (rw (c .before .refusal .given .1) at (c .before .before .before .certificate-body .ensures))
 
-returns-5 : tie.Need-returns-5
-returns-5 c = ?
+returns-3 : tie.Need-returns-3
+unfolding judgedBy
+returns-3 c = let m = c .before .before .before .before .before .before .before .before .before .before .before .args .message .now in
+    let d = opened (c .before .before .before .before .before .before .before .before .before .before .before .args .f) (c .before .before .before .before .before .before .before .before .before .before .before .args .message .now) (rw (c .before .before .before .before .before .before .payment .given .1) at (c .before .before .before .before .before .before .before .before .certificate-body .ensures)) in
+    let t : Tallied (c .before .before .before .tally-of .result) (3 * c .before .before .before .before .before .before .before .before .before .before .before .args .f) (signersIn m) = rw (d .first, d .count) at (c .before .before .before .tally-of .ensures) in
+    let j = c .before .judge-votes .ensures ∙ ap (votesJudged (c .before .before .before .before .before .before .before .before .before .before .before .args .f) (c .before .before .before .tally-of .result)) (c .before .before .all-good .ensures) in
+    simp (d .faults, d .laidDown, d .formed, d .inRange, eq-eqb (length (c .before .before .before .before .before .before .before .before .before .before .before .args .verdicts .now)) (votes m) (c .before .before .before .before .if1 .left ∙ d .count))
+    (ap certificateSaid (c .certified .ensures) ∙ votes-certify _ (c .before .judge-votes .result) (c .before .before .before .before .before .before .before .before .before .before .before .args .f) (c .before .before .before .tally-of .result) (good (c .before .before .before .before .before .before .before .before .before .before .before .args .verdicts .now)) (signersIn m) _ (d .values) t j)
 
 pub judge-certificate-spec : {M : Type 1} → statement M
 judge-certificate-spec =
     tie.close
     (tie.spec
-    returns
-    certificate-end-requires
-    returns-2
-    sub-cut
-    cut-requires
-    read-payment-requires
+    certificate-body-requires
     enum-known-refusal
     enum-known-payment
     sub-n
-    returns-3
+    returns
     add-tally-of
     mul-tally-of
     tally-of-requires
     all-good-requires
     judge-votes-requires
     certified-requires
-    returns-4
-    returns-5)
+    returns-2
+    returns-3)

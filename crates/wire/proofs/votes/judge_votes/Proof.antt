@@ -1,8 +1,8 @@
+use Rattle.wire.specs.Steps.{votesJudged}
 use native.Mathlib.Omega.{arith}
 use borrow.Author.Needs.{needs}
 use borrow.Author.Tests.{le-leb, lt-leb, not-true, not-false}
 use lib.Count.{ones-le}
-use Rattle.wire.specs.Votes.{votesJudged}
 use Rattle.wire.proofs.votes.judge_votes.Statement.{statement}
 use Rattle.wire.proofs.votes.judge_votes.Tie as tie
 
