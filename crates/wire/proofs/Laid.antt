@@ -1,5 +1,4 @@
 -- What each message's layout gives: its fields as laid down, where they end, and its length. Assumes nothing.
-use Rattle.wire.specs.Steps.{bodyPlaces, fundingPlaces, passing}
 use Prim.Native.Nat.{ℕ, zero, suc, _+_, _-_, _*_, _/_, _<_, _≤_}
 use mathlib.Core.Path.{_≡_, refl, sym, ap, _∙_}
 use mathlib.Core.Bool.{Bool, true, false, _&&_, _||_, false≢true}
@@ -17,23 +16,6 @@ use Rattle.wire.specs.Votes.{votes}
 use Rattle.wire.specs.declared.fields.Places.{Places}
 use Rattle.wire.specs.declared.fields.Want.{Want}
 use Rattle.wire.proofs.FieldLaws.{Passed, passed, sized-ends, first-field, first-sized, last-field, laid-ends, length-cut, all-lost}
-
--- the places that five reads pass, one after another
-pub linked : (m : List ℕ) (p : Places) (a b c d e : Want) → p .a ≡ after m 0 a → p .b ≡ after m (p .a) b → p .c ≡ after m (p .b) c → p .d ≡ after m (p .c) d
-    → p .e ≡ after m (p .d) e → p ≡ passing m a b c d e
-linked m p a b c d e fa fb fc fd fe =
-    let ga = fa in
-    let gb = fb ∙ ap (λ (n : ℕ). after m n b) ga in
-    let gc = fc ∙ ap (λ (n : ℕ). after m n c) gb in
-    let gd = fd ∙ ap (λ (n : ℕ). after m n d) gc in
-    let ge = fe ∙ ap (λ (n : ℕ). after m n e) gd in
-    λ i. record { a = ga i; b = gb i; c = gc i; d = gd i; e = ge i }
-
--- five fields are laid down where the last of those places is the end of a message that is not too long
-pub passing-laid : (m : List ℕ) (a b c d e : Want) (p : Places) → p ≡ passing m a b c d e
-    → laid m (a ∷ b ∷ c ∷ d ∷ e ∷ []) ≡ (isMessage (length m) && eqb (p .e) (length m))
-unfolding laid ends
-passing-laid m a b c d e p q = ap (λ (x : Places). isMessage (length m) && eqb (x .e) (length m)) (sym q)
 
 -- a message laid down whose first field, of 25 to 57 bytes, ends at `end`
 pub record Enclosed (m : List ℕ) (fields : List Want) (end : ℕ) : Type 0 where
@@ -151,16 +133,6 @@ body-laid b h =
       note-size = omega arith;
     }
 
--- the places that a reader passes in such a body
-pub body-places : (b : List ℕ) (p : Places) → p ≡ bodyPlaces b → laid b bodyFields ≡ true → (p .a ≡ 4) × (p .b ≡ 10) × (p .c ≡ 17) × (p .d ≡ 22) × (25 ≤ length b)
-unfolding after
-body-places b p e h =
-    let l = body-laid b h in
-    let q : bodyPlaces b ≡ record { a = 4; b = 10; c = 17; d = 22; e = length b }
-    = rw (l .sender-ends, l .recipient-ends, l .amount-ends, l .sequence-ends, l .note-ends) in
-    let r = e ∙ q in
-    (ap (λ (x : Places). x .a) r, ap (λ (x : Places). x .b) r, ap (λ (x : Places). x .c) r, ap (λ (x : Places). x .d) r, l .least)
-
 -- the note of a body with its fields is not too long
 pub note-fits : (b : List ℕ) → laid b bodyFields ≡ true → isNote (length (noteIn b)) ≡ true
 note-fits b h =
@@ -206,18 +178,6 @@ funding-laid m h =
     let f₂ = first-sized m 5 0x31 1 9 _ l (lit< tt) refl (f₁ .1) in
     let f₃ = last-field m 9 0x32 4 4 l (lit< tt) (f₂ .1) in
     record { index = f₁ .0; account = f₂ .0; amount = f₃ .0; sixteen = omega (arith, f₃ .1, f₃ .0 .long, f₃ .0 .short) }
-
--- the places that a reader passes in such a funding order
-pub funding-places : (m : List ℕ) (p : Places) → p ≡ fundingPlaces m → laid m fundingFields ≡ true → (p .a ≡ 5) × (p .b ≡ 9) × (p .c ≡ 16) × (length m ≡ 16)
-unfolding after
-funding-places m p e h =
-    let l = funding-laid m h in
-    let x : past m 0 0x30 2 2 ≡ 5 = sized-ends m 0 0x30 2 5 (l .index) refl in
-    let y : past m 5 0x31 1 1 ≡ 9 = sized-ends m 5 0x31 1 9 (l .account) refl in
-    let z : past m 9 0x32 4 4 ≡ 16 = sized-ends m 9 0x32 4 16 (l .amount) refl in
-    let q : fundingPlaces m ≡ record { a = 5; b = 9; c = 16; d = 16; e = 16 } = rw (x, y, z) in
-    let r = e ∙ q in
-    (ap (λ (x : Places). x .a) r, ap (λ (x : Places). x .b) r, ap (λ (x : Places). x .c) r, l .sixteen)
 
 -- n votes stand from `at` to the end of the message, one field 21 after the other
 abbrev pub Votes : ℕ → List ℕ → ℕ → Type 0

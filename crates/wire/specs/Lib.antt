@@ -6,4 +6,3 @@ pub mod Refusals
 pub mod Votes
 pub mod Readers
 pub mod Writers
-pub mod Steps

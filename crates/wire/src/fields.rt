@@ -73,7 +73,7 @@ pub struct Places {
 }
 
 // The length that the field at `at` says.
-pub(crate) fn size_at(message: &[u8], at: usize) -> usize
+pub fn size_at(message: &[u8], at: usize) -> usize
     requires { ⌜ at + 3 ≤ length (now message) ⌝ }
     ensures { λ r. ⌜ (r ≡ fields.size (now (message .entry)) at) × (r < 2 ^ 16) ⌝ }
 {
@@ -180,7 +180,7 @@ pub fn read_fields(message: &[u8], plan: Plan) -> Places
 }
 
 // Nothing stands after the last field, which ends at `end`, and the message is not too long.
-pub(crate) fn whole(message: &[u8], end: usize) -> bool
+pub fn whole(message: &[u8], end: usize) -> bool
     ensures { λ r. ⌜ r ≡ (isMessage (length (now (message .entry))) && eqb end (length (now (message .entry)))) ⌝ }
 {
     if message.len() > 1148 {

@@ -1,11 +1,4 @@
-// The messages of document 01: what they are made of, how they are read and written, and how a certificate is judged.
+// What the messages of document 01 are made of: the kinds of number, the answers, and fields with their reader.
 pub mod answers;
-pub mod body;
-pub mod certificate;
-pub mod covered;
 pub mod fields;
-pub mod funding;
 pub mod kinds;
-pub mod order;
-pub mod votes;
-pub mod write;

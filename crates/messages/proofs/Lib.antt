@@ -1,0 +1,4 @@
+pub mod Onward
+pub mod Passing
+pub mod Tallies
+pub mod Written

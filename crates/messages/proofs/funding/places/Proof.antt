@@ -1,0 +1,54 @@
+use Rattle.wire.specs.declared.fields.Want.{Want}
+use mathlib.Core.Path.{_≡_, refl, sym, ap, _∙_}
+use Prim.Native.Nat.{ℕ}
+use Rattle.wire.specs.Fields.{want, wantNone, after}
+use Rattle.messages.proofs.Passing.{linked}
+use borrow.Author.Needs.{needs}
+use Rattle.messages.proofs.funding.places.Statement.{statement}
+use Rattle.messages.proofs.funding.places.Tie as tie
+use Rattle.messages.proofs.funding.places.Reads as reads
+use Rattle.messages.proofs.funding.places.Lts as lts
+use Rattle.wire.proofs.fields.Want.none.Reads as none-reads
+use Rattle.wire.proofs.fields.Want.one.Reads as one-reads
+use Rattle.wire.proofs.fields.read_fields.Reads as read-fields-reads
+
+one-requires : tie.Need-one-requires
+one-requires c κs = search needs
+
+one-requires-2 : tie.Need-one-requires-2
+one-requires-2 c κs = search needs
+
+one-requires-3 : tie.Need-one-requires-3
+one-requires-3 c κs = search needs
+
+none-requires : tie.Need-none-requires
+none-requires c κs = search needs
+
+none-requires-2 : tie.Need-none-requires-2
+none-requires-2 c κs = search needs
+
+read-fields-requires : tie.Need-read-fields-requires
+read-fields-requires c κs = search needs
+
+returns : tie.Need-returns
+returns c = let e = c .read-fields .ensures in
+    let m = c .before .before .before .before .before .before .before .args .message .now in
+    let p = c .read-fields .result in
+    linked m p (want 0x30 2 2) (want 0x31 1 1) (want 0x32 4 4) wantNone wantNone
+    (e .0 ∙ ap (λ (w : Want). after m 0 w) (c .before .before .before .before .before .one .ensures))
+    (e .1 ∙ ap (λ (w : Want). after m (p .a) w) (c .before .before .before .before .one2 .ensures))
+    (e .2 ∙ ap (λ (w : Want). after m (p .b) w) (c .before .before .before .one3 .ensures))
+    (e .3 ∙ ap (λ (w : Want). after m (p .c) w) (c .before .before .none .ensures))
+    (e .4 ∙ ap (λ (w : Want). after m (p .d) w) (c .before .none2 .ensures))
+
+pub places-spec : {M : Type 1} → statement M
+places-spec =
+    tie.close
+    (tie.spec
+    one-requires
+    one-requires-2
+    one-requires-3
+    none-requires
+    none-requires-2
+    read-fields-requires
+    returns)

@@ -1,0 +1,134 @@
+use Rattle.wire.specs.declared.kinds.Note.{Note}
+use Rattle.wire.specs.Readers.{OrderShown, readOrderPayment, isOrder, held, noteHeld, readOrder}
+use Rattle.wire.specs.Refusals.{Said, gives}
+use Rattle.wire.specs.Messages.{noteIn, inside, signatureIn}
+use Rattle.wire.specs.Fields.{need}
+use Rattle.messages.proofs.Onward.{order-read, payment-read, order-refused}
+use Rattle.wire.proofs.Laid.{order-laid, body-laid}
+use Rattle.wire.proofs.FieldLaws.{length-cut}
+use Rattle.octets.specs.Octets.{two, number, cut}
+use denote.Ref.{now}
+use lib.ListN.{length}
+use native.Mathlib.Omega.{arith}
+use Prim.Native.Nat.{ℕ, _+_, _-_, _≤_}
+use mathlib.Core.Bool.{true, _&&_}
+use mathlib.Core.List.{List, [], _∷_}
+use mathlib.Core.Path.{_≡_, refl, sym, ap, _∙_}
+use borrow.Author.Needs.{needs}
+use Rattle.messages.proofs.order.read_order.Statement.{statement}
+use Rattle.messages.proofs.order.read_order.Tie as tie
+use Rattle.messages.proofs.order.read_order.Reads as reads
+use Rattle.messages.proofs.order.read_order.Lts as lts
+use Rattle.octets.proofs.cut.Reads as cut-reads
+use Rattle.messages.proofs.body.note_of.Reads as note-of-reads
+use Rattle.wire.proofs.fields.size_at.Reads as size-at-reads
+use Rattle.messages.proofs.order.order_payment.Reads as order-payment-reads
+use Rattle.messages.proofs.order.signature_of.Reads as signature-of-reads
+
+-- the answer, the note and the signature, together
+shown : (m : List ℕ) (a : Said) (n : Note) (s : List ℕ) → a ≡ readOrderPayment m → n ≡ noteHeld (need (isOrder m) [] (noteIn (inside m)))
+    → s ≡ held 64 (need (isOrder m) [] (signatureIn m)) → _≡_ {A = OrderShown} (record { answer = a; note = n; signature = s }) (readOrder m)
+unfolding readOrder
+shown m a n s e f g = λ i. record { answer = e i; note = f i; signature = g i }
+
+-- what an accepted order is known to have
+record Facts (m : List ℕ) : Type 0 where
+  accepted : isOrder m ≡ true
+  least : 25 ≤ number two m 1
+  most : number two m 1 ≤ 57
+  size : length (inside m) ≡ number two m 1
+  total : length m ≡ number two m 1 + 70
+
+order-facts : {v : ℕ} {vs : List ℕ} (m : List ℕ) → gives (v ∷ vs) ≡ readOrderPayment m → Facts m
+order-facts m e =
+    let o = order-read m e in
+    let b = payment-read (inside m) (o .1) in
+    let l = order-laid m (o .0) in
+    let t : length m ≡ number two m 1 + 70 = l .total in
+    let s : length (inside m) ≡ number two m 1 = length-cut m 3 (number two m 1) (omega arith) in
+    let d = body-laid (inside m) (b .0) in
+    record { accepted = simp (o .0, b .0, b .1); least = omega arith; most = omega arith; size = s; total = t }
+
+order-payment-requires : tie.Need-order-payment-requires
+order-payment-requires c κs = search needs
+
+enum-known-answer : tie.Need-enum-known-answer
+enum-known-answer c = search needs
+
+cut-requires : tie.Need-cut-requires
+cut-requires c κs = search needs
+
+note-of-requires : tie.Need-note-of-requires
+note-of-requires c κs = search needs
+
+cut-requires-2 : tie.Need-cut-requires-2
+cut-requires-2 c κs = search needs
+
+signature-of-requires : tie.Need-signature-of-requires
+signature-of-requires c κs = search needs
+
+enum-known-answer-2 : tie.Need-enum-known-answer-2
+enum-known-answer-2 c = search needs
+
+size-at-requires : tie.Need-size-at-requires
+size-at-requires c κs = let d = order-facts (c .before .before .before .before .before .args .message .now) (rw (c .before .answer2 .given .1) at (c .before .before .before .order-payment .ensures)) in omega (arith)
+
+cut-requires-3 : tie.Need-cut-requires-3
+cut-requires-3 c κs = let d = order-facts (c .before .before .before .before .before .before .args .message .now) (rw (c .before .before .answer2 .given .1) at (c .before .before .before .before .order-payment .ensures)) in omega (arith, c .size-at .ensures .0)
+
+sub-cut : tie.Need-sub-cut
+sub-cut c = let d = order-facts (c .before .before .before .before .before .before .before .args .message .now) (rw (c .before .before .before .answer2 .given .1) at (c .before .before .before .before .before .order-payment .ensures)) in omega (arith, c .before .size-at .ensures .0)
+
+cut-requires-4 : tie.Need-cut-requires-4
+cut-requires-4 c κs = let d = order-facts (c .before .before .before .before .before .before .before .args .message .now) (rw (c .before .before .before .answer2 .given .1) at (c .before .before .before .before .before .order-payment .ensures)) in omega (arith, c .before .size-at .ensures .0, c .cut3 .ensures .1)
+
+note-of-requires-2 : tie.Need-note-of-requires-2
+note-of-requires-2 c κs = let d = order-facts (c .before .before .before .before .before .before .before .before .args .message .now) (rw (c .before .before .before .before .answer2 .given .1) at (c .before .before .before .before .before .before .order-payment .ensures)) in omega (arith, c .before .before .size-at .ensures .0, c .cut4 .ensures .1)
+
+add-cut : tie.Need-add-cut
+add-cut c = search needs
+
+cut-requires-5 : tie.Need-cut-requires-5
+cut-requires-5 c κs = let d = order-facts (c .before .before .before .before .before .before .before .before .before .args .message .now) (rw (c .before .before .before .before .before .answer2 .given .1) at (c .before .before .before .before .before .before .before .order-payment .ensures)) in omega (arith, c .before .before .before .size-at .ensures .0)
+
+signature-of-requires-2 : tie.Need-signature-of-requires-2
+signature-of-requires-2 c κs = search needs
+
+returns : tie.Need-returns
+returns c = let m = c .before .before .before .before .before .before .before .before .before .args .message .now in
+    let e = rw (c .before .before .before .before .before .answer .given .1) at (c .before .before .before .before .before .before .before .order-payment .ensures) in
+    let q = order-refused m _ e in
+    shown m _ _ _ e (c .before .before .note-of .ensures ∙ ap noteHeld (c .before .before .before .cut .ensures .0 ∙ sym (simp q))) (c .signature-of .ensures ∙ ap (held 64) (c .before .cut2 .ensures .0 ∙ sym (simp q)))
+
+returns-2 : tie.Need-returns-2
+returns-2 c = let m = c .before .before .before .before .before .before .before .before .before .before .before .args .message .now in
+    let e = rw (c .before .before .before .before .before .before .before .answer2 .given .1) at (c .before .before .before .before .before .before .before .before .before .order-payment .ensures) in
+    let d = order-facts m e in
+    let s : c .before .before .before .before .before .size-at .result ≡ number two m 1 = c .before .before .before .before .before .size-at .ensures .0 in
+    let i : now (c .before .before .before .before .cut3 .result) ≡ inside m = c .before .before .before .before .cut3 .ensures .0 ∙ ap (cut m 3) s in
+    let k : c .before .before .before .before .before .size-at .result - 25 ≡ length (inside m) - 25 = omega (arith, d .size) in
+    let n : now (c .before .before .before .cut4 .result) ≡ noteIn (inside m) = c .before .before .before .cut4 .ensures .0 ∙ ap (λ (l : List ℕ). cut l 25 (c .before .before .before .before .before .size-at .result - 25)) i ∙ ap (cut (inside m) 25) k in
+    let g : now (c .before .cut5 .result) ≡ signatureIn m = c .before .cut5 .ensures .0 ∙ ap (λ (j : ℕ). cut m (j + 6) 64) s in
+    shown m _ _ _ e (c .before .before .note-of2 .ensures ∙ ap noteHeld (n ∙ sym (simp (d .accepted)))) (c .signature-of2 .ensures ∙ ap (held 64) (g ∙ sym (simp (d .accepted))))
+
+pub read-order-spec : {M : Type 1} → statement M
+read-order-spec =
+    tie.close
+    (tie.spec
+    order-payment-requires
+    enum-known-answer
+    cut-requires
+    note-of-requires
+    cut-requires-2
+    signature-of-requires
+    enum-known-answer-2
+    size-at-requires
+    cut-requires-3
+    sub-cut
+    cut-requires-4
+    note-of-requires-2
+    add-cut
+    cut-requires-5
+    signature-of-requires-2
+    returns
+    returns-2)

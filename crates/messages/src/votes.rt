@@ -1,0 +1,107 @@
+// Votes: which machines signed, as bits of a u16, and whether they are a quorum.
+ghost use mathlib.Core.Path.{_≡_};
+ghost use Prim.Native.Nat.{_≤_, _<_, _+_, _*_, _^_};
+ghost use mathlib.Core.Bool.{true, _&&_};
+ghost use lib.ListN.{length};
+ghost use Rattle.wire.specs.Votes.{signers, good};
+ghost use Rattle.messages.specs.Steps.{counted, Tallied, votesJudged, votesSaid};
+use wire::answers::Refusal;
+use wire::kinds::Machine;
+
+// The votes passed so far: whether all machines are known, whether they rise, what the next must reach, and who signed.
+pub struct Tally {
+    pub known: bool,
+    pub rising: bool,
+    pub least: u64,
+    pub mask: u16,
+}
+
+// How many different machines voted.
+pub enum VotesAnswer {
+    Counted(u64),
+    Refused(Refusal),
+}
+
+fn both(a: bool, b: bool) -> bool
+    ensures { λ r. ⌜ r ≡ (a && b) ⌝ }
+{
+    if a { b } else { false }
+}
+
+// The tally with one vote more. Only a known machine has a bit.
+fn count_in(t: Tally, machine: Machine, last: u64) -> Tally
+    requires { ⌜ (last < 16) × (machine .0 < 256) ⌝ }
+    ensures { λ r. ⌜ r ≡ counted t (machine .0) last ⌝ }
+{
+    let rising = both(t.rising, t.least <= machine.0);
+    if last < machine.0 {
+        return Tally {
+            known: false,
+            rising,
+            least: machine.0 + 1,
+            mask: t.mask,
+        };
+    }
+    Tally {
+        known: t.known,
+        rising,
+        least: machine.0 + 1,
+        mask: t.mask | (1u16 << machine.0),
+    }
+}
+
+// The tally of n votes whose machine numbers stand at `at` and every `step` bytes after it.
+pub(crate) fn tally_of(s: &[u8], at: usize, step: usize, n: usize, last: u64) -> Tally
+    requires { ⌜ (at + step * n < length (now s) + step) × (step ≤ 68) × (last < 16) ⌝ }
+    ensures { λ r. ⌜ Tallied r last (signers (now (s .entry)) at step n) ⌝ }
+{
+    let mut t = Tally {
+        known: true,
+        rising: true,
+        least: 0,
+        mask: 0,
+    };
+    let mut place = at;
+    let mut i = 0;
+    while i < n {
+        t = count_in(t, Machine(octets::get8(s, place)), last);
+        place += step;
+        i += 1;
+    }
+    t
+}
+
+// Whether every verdict is 1.
+pub(crate) fn all_good(verdicts: &[u8]) -> bool
+    ensures { λ r. ⌜ r ≡ good (now (verdicts .entry)) ⌝ }
+{
+    let mut i = 0;
+    while i < verdicts.len() {
+        if verdicts[i] != 1 {
+            return false;
+        }
+        i += 1;
+    }
+    true
+}
+
+// Over all votes 5, then 6, then 4, then 7. Bits are counted, not votes.
+pub(crate) fn judge_votes(f: u64, t: Tally, good: bool) -> VotesAnswer
+    requires { ⌜ f ≤ 5 ⌝ }
+    ensures { λ r. ⌜ votesSaid r ≡ votesJudged f t good ⌝ }
+{
+    if !t.known {
+        return VotesAnswer::Refused(Refusal::UnknownMachine);
+    }
+    if !t.rising {
+        return VotesAnswer::Refused(Refusal::VotesNotRising);
+    }
+    if !good {
+        return VotesAnswer::Refused(Refusal::BadVerdict);
+    }
+    let machines = u16::count_ones(t.mask) as u64;
+    if machines < 2 * f + 1 {
+        return VotesAnswer::Refused(Refusal::TooFewVotes);
+    }
+    VotesAnswer::Counted(machines)
+}
