@@ -1,0 +1,157 @@
+// Writes messages, reads them back, and shows what is refused and why.
+mod say;
+
+use messages::body;
+use messages::certificate;
+use messages::covered;
+use messages::funding;
+use messages::order;
+use messages::write;
+use wire::answers::BodyAnswer;
+use wire::answers::CertificateAnswer;
+use wire::answers::FundingAnswer;
+use wire::answers::WriteAnswer;
+use wire::kinds::Account;
+use wire::kinds::Funding;
+use wire::kinds::FundingIndex;
+use wire::kinds::Payment;
+use wire::kinds::Sequence;
+
+// A payment of account 2 to account 7, its first.
+fn payment_of(amount: u64) -> Payment {
+    Payment {
+        sender: Account(2),
+        kind: 0,
+        recipient: 7,
+        amount,
+        sequence: Sequence(0),
+    }
+}
+
+// How many bytes a writer made; a refusal is shown.
+fn made(answer: WriteAnswer) -> usize {
+    match answer {
+        WriteAnswer::Wrote(n) => n,
+        WriteAnswer::Refused(refusal) => {
+            say::refused(refusal);
+            0
+        }
+    }
+}
+
+fn show_payment(answer: BodyAnswer) {
+    match answer {
+        BodyAnswer::Pays(payment) => say::payment(payment),
+        BodyAnswer::Refused(refusal) => say::refused(refusal),
+    }
+}
+
+fn show_funding(answer: FundingAnswer) {
+    match answer {
+        FundingAnswer::Funds(order) => say::funding(order),
+        FundingAnswer::Refused(refusal) => say::refused(refusal),
+    }
+}
+
+fn show_certificate(answer: CertificateAnswer) {
+    match answer {
+        CertificateAnswer::Certifies(payment, machines) => {
+            say::payment(payment);
+            say::count(b"    machines for it: ", machines);
+        }
+        CertificateAnswer::Refused(refusal) => say::refused(refusal),
+    }
+}
+
+// A body is written and read, and so is its first half.
+fn whole_and_half() {
+    let mut space = [0u8; 57];
+    let n = made(write::write_body(&mut space, payment_of(1500), b""));
+    let message = say::front(&space, n);
+    say::hex(message);
+    show_payment(body::read_payment(message));
+    say::text(b"  the radio delivers half of it\n");
+    show_payment(body::read_payment(say::front(message, n / 2)));
+}
+
+fn unwritten() {
+    say::text(b"  an amount of 0\n");
+    let mut space = [0u8; 57];
+    made(write::write_body(&mut space, payment_of(0), b""));
+    say::text(b"  an output of 24 bytes\n");
+    let mut small = [0u8; 24];
+    made(write::write_body(&mut small, payment_of(1500), b""));
+}
+
+fn funded() {
+    let order = Funding {
+        index: FundingIndex(1),
+        account: Account(2),
+        amount: 2000,
+    };
+    let mut space = [0u8; 16];
+    let n = made(write::write_funding(&mut space, order));
+    let message = say::front(&space, n);
+    say::hex(message);
+    show_funding(funding::read_funding(message));
+}
+
+fn ordered() {
+    let signature = [7u8; 64];
+    let mut space = [0u8; 127];
+    let n = made(write::write_order(&mut space, payment_of(1500), b"car 12", &signature));
+    let message = say::front(&space, n);
+    let read = order::read_order(message);
+    let answer = read.answer;
+    show_payment(answer);
+    let note = read.note;
+    say::count(b"    bytes of note: ", note.length as u64);
+    say::text(b"    votes cover\n");
+    say::hex(covered::covered(message));
+}
+
+// A run of three votes by these machines; the host checks their signatures.
+fn run_of(a: u8, b: u8, c: u8) -> [u8; 195] {
+    let mut run = [9u8; 195];
+    run[0] = a;
+    run[65] = b;
+    run[130] = c;
+    run
+}
+
+// A certificate with f = 1 and these votes is written and judged.
+fn certify(a: u8, b: u8, c: u8, verdicts: &[u8]) {
+    let mut body = [0u8; 57];
+    let size = made(write::write_body(&mut body, payment_of(1500), b""));
+    let run = run_of(a, b, c);
+    let mut space = [0u8; 512];
+    let n = made(write::write_certificate(1, &mut space, say::front(&body, size), &run));
+    if n == 0 {
+        return;
+    }
+    show_certificate(certificate::judge_certificate(1, say::front(&space, n), verdicts));
+}
+
+fn certificates() {
+    certify(0, 1, 2, b"\x01\x01\x01");
+    say::text(b"  one verdict is bad\n");
+    certify(0, 1, 2, b"\x01\x00\x01");
+    say::text(b"  one verdict is missing\n");
+    certify(0, 1, 2, b"\x01\x01");
+    say::text(b"  machine 1 twice\n");
+    certify(0, 1, 1, b"\x01\x01\x01");
+    say::text(b"  machine 4\n");
+    certify(0, 1, 4, b"\x01\x01\x01");
+}
+
+fn main() {
+    say::text(b"A body: account 2 pays account 7, 1,500 Wh, sequence 0, no note\n");
+    whole_and_half();
+    unwritten();
+    say::text(b"A funding order: index 1, account 2, 2,000 Wh\n");
+    funded();
+    say::text(b"An order for that payment, with the note 'car 12'\n");
+    ordered();
+    say::text(b"A certificate, f = 1, votes of machines 0, 1 and 2\n");
+    certificates();
+}

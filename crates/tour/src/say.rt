@@ -1,0 +1,85 @@
+// Lines on standard output.
+use libc::STDOUT_FILENO;
+use wire::answers::Refusal;
+use wire::kinds::Funding;
+use wire::kinds::Payment;
+
+pub fn text(t: &[u8]) {
+    io::write_all(STDOUT_FILENO, t);
+}
+
+pub fn count(before: &[u8], n: u64) {
+    text(before);
+    io::print_decimal(STDOUT_FILENO, n);
+    text(b"\n");
+}
+
+// The first n bytes, or all where there are fewer.
+pub fn front(s: &[u8], n: usize) -> &[u8] {
+    if n <= s.len() {
+        return octets::cut(s, 0, n);
+    }
+    s
+}
+
+fn digits(s: &[u8]) {
+    let mut i = 0;
+    while i < s.len() {
+        io::print_hex(STDOUT_FILENO, octets::get8(s, i), 2);
+        i += 1;
+    }
+}
+
+pub fn hex(s: &[u8]) {
+    text(b"    ");
+    digits(s);
+    text(b"\n");
+}
+
+pub fn payment(p: Payment) {
+    let sender = p.sender;
+    let sequence = p.sequence;
+    text(b"    account ");
+    io::print_decimal(STDOUT_FILENO, sender.0);
+    if p.kind == 0 {
+        text(b" pays account ");
+    } else {
+        text(b" pays ledger account ");
+    }
+    io::print_decimal(STDOUT_FILENO, p.recipient);
+    text(b", Wh ");
+    io::print_decimal(STDOUT_FILENO, p.amount);
+    count(b", sequence ", sequence.0);
+}
+
+pub fn funding(o: Funding) {
+    let index = o.index;
+    let account = o.account;
+    text(b"    index ");
+    io::print_decimal(STDOUT_FILENO, index.0);
+    text(b", account ");
+    io::print_decimal(STDOUT_FILENO, account.0);
+    count(b", Wh ", o.amount);
+}
+
+// Why a message is refused, in words.
+fn reason(number: u64) {
+    match number {
+        1 => text(b": not laid out to its end\n"),
+        2 => text(b": a value is out of range\n"),
+        3 => text(b": wrong number of verdicts\n"),
+        4 => text(b": a verdict is bad\n"),
+        5 => text(b": no such machine\n"),
+        6 => text(b": machines repeat or do not rise\n"),
+        7 => text(b": too few votes\n"),
+        18 => text(b": the output is too small\n"),
+        _ => text(b"\n"),
+    }
+}
+
+pub fn refused(refusal: Refusal) {
+    let number = refusal.number();
+    text(b"    refused ");
+    io::print_decimal(STDOUT_FILENO, number);
+    reason(number);
+}
