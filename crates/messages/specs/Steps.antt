@@ -33,7 +33,7 @@ passing m a b c d e =
 abbrev pub bodyPlaces : List ℕ → Places
 bodyPlaces b = passing b (want 0x01 1 1) (want 0x02 3 3) (want 0x03 4 4) (want 0x04 2 2) (want 0x05 0 32)
 
--- where its fields end
+-- where a funding order's fields end
 abbrev pub fundingPlaces : List ℕ → Places
 fundingPlaces m = passing m (want 0x30 2 2) (want 0x31 1 1) (want 0x32 4 4) wantNone wantNone
 
@@ -61,6 +61,7 @@ votesJudged f t ok =
     (need (leb (2 * f + 1) (ones (t .mask))) (refuses 7)
     (gives (ones (t .mask) ∷ [])))))
 
+-- what is said of votes: the number of machines, or a refusal
 abbrev pub votesSaid : VotesAnswer → Said
 votesSaid (VotesAnswer.Counted n) = gives (n ∷ [])
 votesSaid (VotesAnswer.Refused r) = refuses (refusalNumber r)
@@ -79,6 +80,7 @@ certificateBody f m =
     (need (isPayment (payment (inside m))) (refuses 2)
     (gives ((3 + size m 0) ∷ paymentValues (payment (inside m)))))))
 
+-- the number and values of its answer
 abbrev pub certificateBodySaid : CertificateBody → Said
 certificateBodySaid (CertificateBody.Body p end) = gives (end ∷ paymentValues p)
 certificateBodySaid (CertificateBody.Refused r) = refuses (refusalNumber r)

@@ -24,7 +24,7 @@ pub(crate) fn certificate_end(message: &[u8]) -> usize
 {
     let plan = Plan {
         a: Want::one(0x20, 25, 57),
-        b: Want::all(0x21, 65),
+        b: Want::all(0x21, votes::VOTE),
         c: Want::none(),
         d: Want::none(),
         e: Want::none(),
@@ -71,8 +71,8 @@ pub fn read_certificate(f: u64, message: &[u8]) -> CertificateAnswer
     match certificate_body(f, message) {
         CertificateBody::Refused(refusal) => CertificateAnswer::Refused(refusal),
         CertificateBody::Body(payment, end) => {
-            let n = (message.len() - end) / 68;
-            let t = votes::tally_of(message, end + 3, 68, n, 3 * f);
+            let n = (message.len() - end) / votes::VOTE_FIELD;
+            let t = votes::tally_of(message, end + 3, votes::VOTE_FIELD, n, 3 * f);
             certified(payment, votes::judge_votes(f, t, true))
         }
     }
@@ -85,11 +85,11 @@ pub fn judge_certificate(f: u64, message: &[u8], verdicts: &[u8]) -> Certificate
     match certificate_body(f, message) {
         CertificateBody::Refused(refusal) => CertificateAnswer::Refused(refusal),
         CertificateBody::Body(payment, end) => {
-            let n = (message.len() - end) / 68;
+            let n = (message.len() - end) / votes::VOTE_FIELD;
             if verdicts.len() != n {
                 return CertificateAnswer::Refused(Refusal::VerdictCount);
             }
-            let t = votes::tally_of(message, end + 3, 68, n, 3 * f);
+            let t = votes::tally_of(message, end + 3, votes::VOTE_FIELD, n, 3 * f);
             certified(payment, votes::judge_votes(f, t, votes::all_good(verdicts)))
         }
     }

@@ -8,6 +8,11 @@ ghost use Rattle.messages.specs.Steps.{counted, Tallied, votesJudged, vo
 use wire::answers::Refusal;
 use wire::kinds::Machine;
 
+// A vote is a machine number and 64 signature bytes; in a certificate it stands in a field.
+pub const VOTE: usize = 65;
+
+pub const VOTE_FIELD: usize = 68;
+
 // The votes passed so far: whether all machines are known, whether they rise, what the next must reach, and who signed.
 pub struct Tally {
     pub known: bool,

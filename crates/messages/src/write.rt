@@ -144,9 +144,9 @@ fn put_votes(out: &mut [u8], at: usize, run: &[u8])
     let mut from = 0;
     let mut place = at;
     while from < run.len() {
-        put_part(out, place, 0x21, octets::cut(run, from, 65));
-        from += 65;
-        place += 68;
+        put_part(out, place, 0x21, octets::cut(run, from, votes::VOTE));
+        from += votes::VOTE;
+        place += votes::VOTE_FIELD;
     }
 }
 
@@ -165,7 +165,7 @@ pub fn write_certificate(f: u64, out: &mut [u8], body: &[u8], run: &[u8]) -> Wri
     if f > 5 {
         return WriteAnswer::Refused(Refusal::OutOfRange);
     }
-    if run.len() % 65 != 0 {
+    if run.len() % votes::VOTE != 0 {
         return WriteAnswer::Refused(Refusal::Malformed);
     }
     match body::read_payment(body) {
@@ -179,12 +179,12 @@ fn write_voted(f: u64, out: &mut [u8], body: &[u8], run: &[u8]) -> WriteAnswer
     requires { ⌜ (f ≤ 5) × (length (now body) ≤ 57) × (length (now run) % 65 ≡ 0) ⌝ }
     ensures { λ r. ⌜ written r (now (out .exit)) ≡ writeVoted f (now (out .entry)) (now (body .entry)) (now (run .entry)) ⌝ }
 {
-    let n = run.len() / 65;
-    let t = votes::tally_of(run, 0, 65, n, 3 * f);
+    let n = run.len() / votes::VOTE;
+    let t = votes::tally_of(run, 0, votes::VOTE, n, 3 * f);
     match votes::judge_votes(f, t, true) {
         VotesAnswer::Refused(refusal) => WriteAnswer::Refused(refusal),
         VotesAnswer::Counted(_) => {
-            let size = body.len() + 3 + 68 * n;
+            let size = body.len() + 3 + votes::VOTE_FIELD * n;
             if out.len() < size {
                 return WriteAnswer::Refused(Refusal::BufferTooSmall);
             }

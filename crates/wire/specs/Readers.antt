@@ -21,10 +21,11 @@ readPayment b =
     (need (isPayment (payment b)) (refuses 2)
     (gives (paymentValues (payment b))))
 
--- a reader of body or order accepts
+-- a body that its reader accepts
 abbrev pub isBody : List ℕ → Bool
 isBody b = laid b bodyFields && isPayment (payment b)
 
+-- an order that its reader accepts
 abbrev pub isOrder : List ℕ → Bool
 isOrder m = laid m orderFields && isBody (inside m)
 
@@ -32,10 +33,11 @@ isOrder m = laid m orderFields && isBody (inside m)
 abbrev pub held : ℕ → List ℕ → List ℕ
 held n bs = put (replicate n 0) 0 bs
 
+-- a note in its array of 32, with its length
 abbrev pub noteHeld : List ℕ → Note
 noteHeld bs = record { length = length bs; bytes = held 32 bs }
 
--- what a reader with bytes among its values gives: all of it, in one equation
+-- all that the reader of a body gives: the answer, and the note beside it
 pub record BodyShown : Type 0 where
   pub answer : Said
   pub note : Note
@@ -47,6 +49,7 @@ bodyShown r = record { answer = bodySaid (r .answer); note = r .note }
 unfoldable pub readBody : List ℕ → BodyShown
 readBody b = record { answer = readPayment b; note = noteHeld (need (isBody b) [] (noteIn b)) }
 
+-- all that the reader of an order gives
 pub record OrderShown : Type 0 where
   pub answer : Said
   pub note : Note
@@ -55,10 +58,11 @@ pub record OrderShown : Type 0 where
 abbrev pub orderShown : OrderRead → OrderShown
 orderShown r = record { answer = bodySaid (r .answer); note = r .note; signature = r .signature }
 
+-- an order's payment, or 1 on the whole message, then 2
 abbrev pub readOrderPayment : List ℕ → Said
 readOrderPayment m = need (laid m orderFields) (refuses 1) (readPayment (inside m))
 
--- the reader of an order: the body's values and the signature, or 1 on the whole message, then 2
+-- the reader of an order: its payment, the note and the signature; a refusal has neither of these
 unfoldable pub readOrder : List ℕ → OrderShown
 readOrder m = record {
   answer = readOrderPayment m;
@@ -66,14 +70,14 @@ readOrder m = record {
   signature = held 64 (need (isOrder m) [] (signatureIn m));
 }
 
--- the reader of a funding order
+-- the reader of a funding order: its values, or 1, then 2
 unfoldable pub readFunding : List ℕ → Said
 readFunding m =
     need (laid m fundingFields) (refuses 1)
     (need (isFunding (funding m)) (refuses 2)
     (gives (fundingValues (funding m))))
 
--- the certificate reader takes f and refuses 2 for f, then 1, 2, 5, 6, 7, without verdicts
+-- the certificate reader for a committee: 1, 2, 5, 6, 7, without verdicts; otherwise the number of machines, and the payment
 unfoldable pub readCertificateOf : Committee → List ℕ → Said
 readCertificateOf c m =
     need (laid m certificateFields) (refuses 1)
@@ -84,6 +88,7 @@ readCertificateOf c m =
     (need (c .quorum (signersIn m)) (refuses 7)
     (gives (length (signersIn m) ∷ paymentValues (payment (inside m)))))))))
 
+-- the certificate reader takes f and refuses 2 for f first
 abbrev pub readCertificate : ℕ → List ℕ → Said
 readCertificate f m = need (isFaults f) (refuses 2) (readCertificateOf (committee f) m)
 
@@ -100,6 +105,7 @@ judgedBy c m verdicts =
     (need (c .quorum (signersIn m)) (refuses 7)
     (gives (length (signersIn m) ∷ paymentValues (payment (inside m)))))))))))
 
+-- the judged certificate takes f and refuses 2 for f first
 abbrev pub judged : ℕ → List ℕ → List ℕ → Said
 judged f m verdicts = need (isFaults f) (refuses 2) (judgedBy (committee f) m verdicts)
 

@@ -31,6 +31,7 @@ unfoldable pub risingFrom : ℕ → List ℕ → Bool
 risingFrom least [] = true
 risingFrom least (k ∷ ks) = leb least k && risingFrom (k + 1) ks
 
+-- votes rise, and so none repeats
 abbrev pub rising : List ℕ → Bool
 rising ks = risingFrom 0 ks
 
@@ -39,12 +40,17 @@ unfoldable pub good : List ℕ → Bool
 good [] = true
 good (v ∷ vs) = eqb v 1 && good vs
 
--- how many votes a certificate has, and whose: each takes 68 bytes behind the body's field
+-- how many votes a certificate has: each takes 68 bytes behind the body's field
 abbrev pub votes : List ℕ → ℕ
 votes m = (length m - (number two m 1 + 3)) / 68
 
+-- the machines that voted in a certificate
 abbrev pub signersIn : List ℕ → List ℕ
 signersIn m = signers m (number two m 1 + 6) 68 (votes m)
+
+-- the machines that voted in a run of 65-byte votes
+abbrev pub signersOf : List ℕ → List ℕ
+signersOf run = signers run 0 65 (length run / 65)
 
 -- a run of n votes of 65 bytes, each in its field 21
 unfoldable pub voteFields : ℕ → List ℕ → List ℕ
@@ -55,10 +61,11 @@ voteFields (suc n) run = field 0x21 (take 65 run) ++ voteFields n (drop 65 run)
 unfoldable pub certificateBytes : List ℕ → List ℕ → List ℕ
 certificateBytes body run = field 0x20 body ++ voteFields (length run / 65) run
 
--- the run of votes that a certificate holds: the values of its fields 21
+-- the values of n fields 21, one after another
 unfoldable pub voteRun : ℕ → List ℕ → List ℕ
 voteRun zero fields = []
 voteRun (suc n) fields = take 65 (drop 3 fields) ++ voteRun n (drop 68 fields)
 
+-- the run of votes that a certificate holds
 abbrev pub votesIn : List ℕ → List ℕ
 votesIn m = voteRun (votes m) (drop (number two m 1 + 3) m)
