@@ -1,5 +1,6 @@
 -- What a function does with the answer of the one below it: a refusal is passed on, and with values it goes on. Assumes nothing.
-use Rattle.messages.specs.Steps.{certificateBody, Tallied, votedFor, votesJudged, votesSaid}
+use Rattle.messages.specs.Steps.{certificateBody, votedFor}
+use Rattle.votes.specs.Tally.{Tallied, votesJudged, votesSaid}
 use Prim.Native.Nat.{ℕ, _+_, _-_, _*_, _/_, _≤_, _<_}
 use mathlib.Core.Path.{_≡_, refl, sym, ap, _∙_}
 use mathlib.Core.Bool.{Bool, true, false, _&&_}
@@ -17,8 +18,8 @@ use Rattle.wire.specs.Messages.{bodyFields, payment, isPayment, orderFields, ce
 use Rattle.wire.specs.Votes.{known, rising, votes}
 use Rattle.wire.specs.Refusals.{Said, gives, refuses, paymentValues, certificateSaid}
 use Rattle.wire.specs.Readers.{readPayment, readOrderPayment, isBody, isOrder}
-use Rattle.messages.specs.declared.votes.Tally.{Tally}
-use Rattle.messages.specs.declared.votes.VotesAnswer.{VotesAnswer}
+use Rattle.votes.specs.declared.Tally.{Tally}
+use Rattle.votes.specs.declared.VotesAnswer.{VotesAnswer}
 use Rattle.wire.specs.declared.kinds.Payment.{Payment}
 
 module _ {A : Type 0} (refused : ℕ → A) (rest : A) where

@@ -1,22 +1,14 @@
 -- What the functions inside this crate answer on the way. No public contract cites anything of this file.
-use Prim.Native.Nat.{ℕ, _+_, _*_, _^_}
-use mathlib.Core.Path.{_≡_}
-use mathlib.Core.Bool.{Bool, true, _&&_, cond}
+use Prim.Native.Nat.{ℕ, _+_}
 use mathlib.Core.List.{List, [], _∷_}
-use lib.ListN.{length}
-use lib.Dec.{leb}
-use lib.Bits.{bitOr}
-use lib.Count.{ones}
 use Rattle.wire.specs.Numbers.{isFaults}
 use Rattle.wire.specs.Fields.{need, want, wantNone, size, after, laid}
 use Rattle.wire.specs.Messages.{bodyFields, payment, isPayment, certificateFields, inside}
-use Rattle.wire.specs.Votes.{known, rising}
 use Rattle.wire.specs.Refusals.{Said, gives, refuses, refusalNumber, paymentValues}
 use Rattle.wire.specs.declared.fields.Want.{Want}
 use Rattle.wire.specs.declared.fields.Places.{Places}
 use Rattle.wire.specs.declared.kinds.Payment.{Payment}
-use Rattle.messages.specs.declared.votes.Tally.{Tally}
-use Rattle.messages.specs.declared.votes.VotesAnswer.{VotesAnswer}
+use Rattle.votes.specs.declared.VotesAnswer.{VotesAnswer}
 use Rattle.messages.specs.declared.certificate.CertificateBody.{CertificateBody}
 use Rattle.wire.specs.declared.answers.CertificateAnswer.{CertificateAnswer}
 
@@ -36,35 +28,6 @@ bodyPlaces b = passing b (want 0x01 1 1) (want 0x02 3 3) (want 0x03 4 4) (want 0
 -- where a funding order's fields end
 abbrev pub fundingPlaces : List ℕ → Places
 fundingPlaces m = passing m (want 0x30 2 2) (want 0x31 1 1) (want 0x32 4 4) wantNone wantNone
-
--- the tally of votes, one more at a time: a known machine is a bit of the mask
-unfoldable pub counted : Tally → ℕ → ℕ → Tally
-counted t k last = record {
-  known = t .known && leb k last;
-  rising = t .rising && leb (t .least) k;
-  least = k + 1;
-  mask = cond (leb k last) (bitOr (t .mask) (2 ^ k)) (t .mask);
-}
-
--- what the tally of machine numbers says; the bits of its mask are as many as they are, once they are known and rise
-pub record Tallied (t : Tally) (last : ℕ) (ks : List ℕ) : Type 0 where
-  pub allKnown : t .known ≡ known last ks
-  pub allRising : t .rising ≡ rising ks
-  pub count : known last ks ≡ true → rising ks ≡ true → ones (t .mask) ≡ length ks
-
--- over all votes 5, then 6, then 4, then 7
-unfoldable pub votesJudged : ℕ → Tally → Bool → Said
-votesJudged f t ok =
-    need (t .known) (refuses 5)
-    (need (t .rising) (refuses 6)
-    (need ok (refuses 4)
-    (need (leb (2 * f + 1) (ones (t .mask))) (refuses 7)
-    (gives (ones (t .mask) ∷ [])))))
-
--- what is said of votes: the number of machines, or a refusal
-abbrev pub votesSaid : VotesAnswer → Said
-votesSaid (VotesAnswer.Counted n) = gives (n ∷ [])
-votesSaid (VotesAnswer.Refused r) = refuses (refusalNumber r)
 
 -- a payment with the number of its voters, or what its votes are refused for
 abbrev pub votedFor : Payment → VotesAnswer → CertificateAnswer

@@ -4,5 +4,4 @@ pub mod certificate;
 pub mod covered;
 pub mod funding;
 pub mod order;
-pub mod votes;
 pub mod write;

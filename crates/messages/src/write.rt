@@ -10,8 +10,7 @@ ghost use Rattle.wire.specs.Messages.{isPayment, bodyBytes, orderBytes, isFundi
 ghost use Rattle.wire.specs.Votes.{voteFields, certificateBytes};
 ghost use Rattle.wire.specs.Writers.{written, writeBody, writeOrder, writeFunding, writeVoted, writeCertificate};
 use crate::body;
-use crate::votes;
-use crate::votes::VotesAnswer;
+use votes::VotesAnswer;
 use wire::answers::BodyAnswer;
 use wire::answers::Refusal;
 use wire::answers::WriteAnswer;

@@ -1,4 +1,4 @@
-use Rattle.messages.specs.Steps.{Tallied, votesJudged}
+use Rattle.votes.specs.Tally.{Tallied, votesJudged}
 use Rattle.wire.specs.Readers.{readCertificateOf, judgedBy}
 use Rattle.wire.specs.Votes.{votes, signersIn, good}
 use Rattle.wire.specs.Refusals.{certificateSaid}
@@ -17,9 +17,9 @@ use Rattle.messages.proofs.certificate.judge_certificate.Reads as reads
 use Rattle.messages.proofs.certificate.judge_certificate.Lts as lts
 use Rattle.messages.proofs.certificate.certificate_body.Reads as certificate-body-reads
 use Rattle.messages.proofs.certificate.certified.Reads as certified-reads
-use Rattle.messages.proofs.votes.all_good.Reads as all-good-reads
-use Rattle.messages.proofs.votes.judge_votes.Reads as judge-votes-reads
-use Rattle.messages.proofs.votes.tally_of.Reads as tally-of-reads
+use Rattle.votes.proofs.all_good.Reads as all-good-reads
+use Rattle.votes.proofs.judge_votes.Reads as judge-votes-reads
+use Rattle.votes.proofs.tally_of.Reads as tally-of-reads
 
 certificate-body-requires : tie.Need-certificate-body-requires
 certificate-body-requires c κs = search needs

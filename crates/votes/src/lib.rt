@@ -4,7 +4,7 @@ ghost use Prim.Native.Nat.{_≤_, _<_, _+_, _*_, _^_};
 ghost use mathlib.Core.Bool.{true, _&&_};
 ghost use lib.ListN.{length};
 ghost use Rattle.wire.specs.Votes.{signers, good};
-ghost use Rattle.messages.specs.Steps.{counted, Tallied, votesJudged, votesSaid};
+ghost use Rattle.votes.specs.Tally.{counted, Tallied, votesJudged, votesSaid};
 use wire::answers::Refusal;
 use wire::kinds::Machine;
 
@@ -56,7 +56,7 @@ fn count_in(t: Tally, machine: Machine, last: u64) -> Tally
 }
 
 // The tally of n votes whose machine numbers stand at `at` and every `step` bytes after it.
-pub(crate) fn tally_of(s: &[u8], at: usize, step: usize, n: usize, last: u64) -> Tally
+pub fn tally_of(s: &[u8], at: usize, step: usize, n: usize, last: u64) -> Tally
     requires { ⌜ (at + step * n < length (now s) + step) × (step ≤ 68) × (last < 16) ⌝ }
     ensures { λ r. ⌜ Tallied r last (signers (now (s .entry)) at step n) ⌝ }
 {
@@ -77,7 +77,7 @@ pub(crate) fn tally_of(s: &[u8], at: usize, step: usize, n: usize, last: u64) ->
 }
 
 // Whether every verdict is 1.
-pub(crate) fn all_good(verdicts: &[u8]) -> bool
+pub fn all_good(verdicts: &[u8]) -> bool
     ensures { λ r. ⌜ r ≡ good (now (verdicts .entry)) ⌝ }
 {
     let mut i = 0;
@@ -91,7 +91,7 @@ pub(crate) fn all_good(verdicts: &[u8]) -> bool
 }
 
 // Over all votes 5, then 6, then 4, then 7. Bits are counted, not votes.
-pub(crate) fn judge_votes(f: u64, t: Tally, good: bool) -> VotesAnswer
+pub fn judge_votes(f: u64, t: Tally, good: bool) -> VotesAnswer
     requires { ⌜ f ≤ 5 ⌝ }
     ensures { λ r. ⌜ votesSaid r ≡ votesJudged f t good ⌝ }
 {

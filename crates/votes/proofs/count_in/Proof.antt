@@ -1,7 +1,7 @@
 use borrow.Author.Needs.{needs}
-use Rattle.messages.proofs.Tallies.{counted-unknown, counted-known}
-use Rattle.messages.proofs.votes.count_in.Statement.{statement}
-use Rattle.messages.proofs.votes.count_in.Tie as tie
+use Rattle.votes.proofs.Tallies.{counted-unknown, counted-known}
+use Rattle.votes.proofs.count_in.Statement.{statement}
+use Rattle.votes.proofs.count_in.Tie as tie
 
 both-requires : tie.Need-both-requires
 both-requires c κs = search needs

@@ -4,9 +4,9 @@ use native.Mathlib.Omega.{arith}
 use borrow.Author.Needs.{needs}
 use lib.ListN.{length}
 use Rattle.wire.specs.Votes.{signers}
-use Rattle.messages.proofs.Tallies.{Counting, counting-none, counting-more, counting-all, signers-more, signers-end, steps-more}
-use Rattle.messages.proofs.votes.tally_of.Statement.{statement}
-use Rattle.messages.proofs.votes.tally_of.Tie as tie
+use Rattle.votes.proofs.Tallies.{Counting, counting-none, counting-more, counting-all, signers-more, signers-end, steps-more}
+use Rattle.votes.proofs.tally_of.Statement.{statement}
+use Rattle.votes.proofs.tally_of.Tie as tie
 
 abbrev Inv-loop : tie.InvT-loop
 Inv-loop s at step n last t₀ place₀ i₀ t place i =

@@ -4,9 +4,9 @@ use mathlib.Core.Path.{_≡_, _∙_}
 use native.Mathlib.Omega.{arith}
 use lib.ListN.{length, drop}
 use Rattle.wire.specs.Votes.{good}
-use Rattle.messages.proofs.Tallies.{good-more, good-stop, good-end}
-use Rattle.messages.proofs.votes.all_good.Statement.{statement}
-use Rattle.messages.proofs.votes.all_good.Tie as tie
+use Rattle.votes.proofs.Tallies.{good-more, good-stop, good-end}
+use Rattle.votes.proofs.all_good.Statement.{statement}
+use Rattle.votes.proofs.all_good.Tie as tie
 
 abbrev Inv-loop : tie.InvT-loop
 Inv-loop verdicts i₀ i = (i ≤ length verdicts) × (good verdicts ≡ good (drop i verdicts))

@@ -1,5 +1,5 @@
 -- What a turn of a loop over votes or verdicts shows: the tally and the test go on with the rest of the list. Assumes nothing.
-use Rattle.messages.specs.Steps.{Tallied, counted}
+use Rattle.votes.specs.Tally.{Tallied, counted}
 use Prim.Native.Nat.{ℕ, zero, suc, _+_, _-_, _*_, _%_, _^_, _≤_, _<_}
 use mathlib.Core.Bool.{Bool, true, false, _&&_, and-true, and-false, and-assoc}
 use mathlib.Core.Path.{_≡_, refl, sym, ap, _∙_}
@@ -16,7 +16,7 @@ use lib.Bits.{bitOr, or-shifted-r}
 use lib.Count.{ones, ones-cat}
 use Rattle.octets.specs.Octets.{one, number}
 use Rattle.wire.specs.Votes.{signers, known, rising, risingFrom, good}
-use Rattle.messages.specs.declared.votes.Tally.{Tally}
+use Rattle.votes.specs.declared.Tally.{Tally}
 
 -- a machine above the last is unknown and has no bit
 pub counted-unknown : (t : Tally) (k last : ℕ) → last < k

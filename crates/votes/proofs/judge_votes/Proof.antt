@@ -1,10 +1,10 @@
-use Rattle.messages.specs.Steps.{votesJudged}
+use Rattle.votes.specs.Tally.{votesJudged}
 use native.Mathlib.Omega.{arith}
 use borrow.Author.Needs.{needs}
 use borrow.Author.Tests.{le-leb, lt-leb, not-true, not-false}
 use lib.Count.{ones-le}
-use Rattle.messages.proofs.votes.judge_votes.Statement.{statement}
-use Rattle.messages.proofs.votes.judge_votes.Tie as tie
+use Rattle.votes.proofs.judge_votes.Statement.{statement}
+use Rattle.votes.proofs.judge_votes.Tie as tie
 
 returns : tie.Need-returns
 unfolding votesJudged
