@@ -1,8 +1,6 @@
 -- What a function does with the answer of the one below it: a refusal is passed on, and with values it goes on. Assumes nothing.
-use Rattle.messages.specs.Steps.{certificateBody, votedFor}
-use Rattle.votes.specs.Tally.{Tallied, votesJudged, votesSaid}
 use Prim.Native.Nat.{ℕ, _+_, _-_, _*_, _/_, _≤_, _<_}
-use mathlib.Core.Path.{_≡_, refl, sym, ap, _∙_}
+use mathlib.Core.Path.{_≡_, refl, ap, _∙_}
 use mathlib.Core.Bool.{Bool, true, false, _&&_}
 use mathlib.Core.List.{List, [], _∷_, _++_}
 use native.Mathlib.Omega.{arith}
@@ -11,16 +9,18 @@ use lib.Dec.{leb, ltb}
 use lib.Count.{ones}
 use borrow.Author.Tests.{leb-true}
 use Rattle.octets.specs.Octets.{two, number}
-use Rattle.wire.proofs.Laid.{body-laid, certificate-laid, votes-length}
 use Rattle.wire.specs.Numbers.{isFaults}
 use Rattle.wire.specs.Fields.{need, size, laid}
 use Rattle.wire.specs.Messages.{bodyFields, payment, isPayment, orderFields, certificateFields, inside}
 use Rattle.wire.specs.Votes.{known, rising, votes}
 use Rattle.wire.specs.Refusals.{Said, gives, refuses, paymentValues, certificateSaid}
 use Rattle.wire.specs.Readers.{readPayment, readOrderPayment, isBody, isOrder}
+use Rattle.wire.specs.declared.kinds.Payment.{Payment}
+use Rattle.wire.proofs.Laid.{body-laid, certificate-laid, votes-length}
+use Rattle.votes.specs.Tally.{Tallied, votesJudged, votesSaid}
 use Rattle.votes.specs.declared.Tally.{Tally}
 use Rattle.votes.specs.declared.VotesAnswer.{VotesAnswer}
-use Rattle.wire.specs.declared.kinds.Payment.{Payment}
+use Rattle.messages.specs.Steps.{certificateBody, votedFor}
 
 module _ {A : Type 0} (refused : ℕ → A) (rest : A) where
   -- what follows an answer with values, or its refusal

@@ -1,6 +1,6 @@
 -- What the functions inside this crate answer on the way. No public contract cites anything of this file.
 use Prim.Native.Nat.{ℕ, _+_}
-use mathlib.Core.List.{List, [], _∷_}
+use mathlib.Core.List.{List, _∷_}
 use Rattle.wire.specs.Numbers.{isFaults}
 use Rattle.wire.specs.Fields.{need, want, wantNone, size, after, laid}
 use Rattle.wire.specs.Messages.{bodyFields, payment, isPayment, certificateFields, inside}
@@ -8,9 +8,9 @@ use Rattle.wire.specs.Refusals.{Said, gives, refuses, refusalNumber, paymentVal
 use Rattle.wire.specs.declared.fields.Want.{Want}
 use Rattle.wire.specs.declared.fields.Places.{Places}
 use Rattle.wire.specs.declared.kinds.Payment.{Payment}
+use Rattle.wire.specs.declared.answers.CertificateAnswer.{CertificateAnswer}
 use Rattle.votes.specs.declared.VotesAnswer.{VotesAnswer}
 use Rattle.messages.specs.declared.certificate.CertificateBody.{CertificateBody}
-use Rattle.wire.specs.declared.answers.CertificateAnswer.{CertificateAnswer}
 
 -- where a reader stands after each of five fields
 abbrev pub passing : List ℕ → Want → Want → Want → Want → Want → Places

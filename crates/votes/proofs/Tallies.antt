@@ -1,5 +1,4 @@
 -- What a turn of a loop over votes or verdicts shows: the tally and the test go on with the rest of the list. Assumes nothing.
-use Rattle.votes.specs.Tally.{Tallied, counted}
 use Prim.Native.Nat.{ℕ, zero, suc, _+_, _-_, _*_, _%_, _^_, _≤_, _<_}
 use mathlib.Core.Bool.{Bool, true, false, _&&_, and-true, and-false, and-assoc}
 use mathlib.Core.Path.{_≡_, refl, sym, ap, _∙_}
@@ -7,15 +6,16 @@ use mathlib.Core.List.{List, [], _∷_}
 use native.Mathlib.Nat.{zero-add, add-comm, one-mul, mul-suc, lt-of-lt-of-le, two-pow-succ}
 use native.Mathlib.Numerals.{add-one}
 use native.Mathlib.Omega.{arith}
-use borrow.Author.Tests.{leb-true, le-leb, lt-leb, eq-eqb, ne-eqb}
 use lib.ListN.{length, getD, drop, drop-of-length-le}
 use lib.Seq.{drop-cons}
 use lib.Dec.{leb}
 use lib.Pow.{pow-mono, shl-exact}
 use lib.Bits.{bitOr, or-shifted-r}
 use lib.Count.{ones, ones-cat}
+use borrow.Author.Tests.{leb-true, le-leb, lt-leb, eq-eqb, ne-eqb}
 use Rattle.octets.specs.Octets.{one, number}
 use Rattle.wire.specs.Votes.{signers, known, rising, risingFrom, good}
+use Rattle.votes.specs.Tally.{Tallied, counted}
 use Rattle.votes.specs.declared.Tally.{Tally}
 
 -- a machine above the last is unknown and has no bit

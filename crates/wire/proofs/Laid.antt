@@ -1,7 +1,7 @@
 -- What each message's layout gives: its fields as laid down, where they end, and its length. Assumes nothing.
 use Prim.Native.Nat.{ℕ, zero, suc, _+_, _-_, _*_, _/_, _<_, _≤_}
-use mathlib.Core.Path.{_≡_, refl, sym, ap, _∙_}
-use mathlib.Core.Bool.{Bool, true, false, _&&_, _||_, false≢true}
+use mathlib.Core.Path.{_≡_, refl, _∙_}
+use mathlib.Core.Bool.{Bool, true, false, _||_, false≢true}
 use mathlib.Core.List.{List, [], _∷_}
 use native.Mathlib.Omega.{arith}
 use native.Mathlib.Nat.{lt-irrefl}
@@ -9,11 +9,10 @@ use lib.ListN.{length}
 use lib.Dec.{eqb, lit<}
 use borrow.Author.Tests.{eqb-true, le-leb, ne-eqb}
 use Rattle.octets.specs.Octets.{two, number}
-use Rattle.wire.specs.Numbers.{isNote, isMessage}
+use Rattle.wire.specs.Numbers.{isNote}
 use Rattle.wire.specs.Fields.{need, want, wantNone, lost, wantAll, size, past, pastAll, after, ends, laid}
 use Rattle.wire.specs.Messages.{bodyFields, noteIn, orderFields, signatureIn, certificateFields, fundingFields}
 use Rattle.wire.specs.Votes.{votes}
-use Rattle.wire.specs.declared.fields.Places.{Places}
 use Rattle.wire.specs.declared.fields.Want.{Want}
 use Rattle.wire.proofs.FieldLaws.{Passed, passed, sized-ends, first-field, first-sized, last-field, laid-ends, length-cut, all-lost}
 

@@ -1,6 +1,6 @@
 -- 01, Numbers: the range of each, as a test.
 use Prim.Native.Nat.{ℕ, zero, suc}
-use mathlib.Core.Bool.{Bool, true, false, _&&_}
+use mathlib.Core.Bool.{Bool, false, _&&_}
 use lib.Dec.{leb}
 
 -- f is 0..5

@@ -2,9 +2,6 @@ use borrow.Author.Needs.{needs}
 use Rattle.octets.proofs.Laws.{put-halves}
 use Rattle.octets.proofs.put16.Statement.{statement}
 use Rattle.octets.proofs.put16.Tie as tie
-use Rattle.octets.proofs.put16.Reads as reads
-use Rattle.octets.proofs.put16.Lts as lts
-use Rattle.octets.proofs.put8.Reads as put8-reads
 
 -- src/lib.rt:53:5
 put8-requires : tie.Need-put8-requires

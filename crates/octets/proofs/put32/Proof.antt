@@ -2,9 +2,6 @@ use borrow.Author.Needs.{needs}
 use Rattle.octets.proofs.Laws.{put-halves}
 use Rattle.octets.proofs.put32.Statement.{statement}
 use Rattle.octets.proofs.put32.Tie as tie
-use Rattle.octets.proofs.put32.Reads as reads
-use Rattle.octets.proofs.put32.Lts as lts
-use Rattle.octets.proofs.put16.Reads as put16-reads
 
 -- src/lib.rt:61:5
 put16-requires : tie.Need-put16-requires

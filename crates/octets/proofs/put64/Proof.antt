@@ -2,9 +2,6 @@ use borrow.Author.Needs.{needs}
 use Rattle.octets.proofs.Laws.{put-halves}
 use Rattle.octets.proofs.put64.Statement.{statement}
 use Rattle.octets.proofs.put64.Tie as tie
-use Rattle.octets.proofs.put64.Reads as reads
-use Rattle.octets.proofs.put64.Lts as lts
-use Rattle.octets.proofs.put32.Reads as put32-reads
 
 -- src/lib.rt:69:5
 put32-requires : tie.Need-put32-requires

@@ -2,8 +2,6 @@ use borrow.Author.Needs.{needs}
 use Rattle.octets.specs.Octets.{put, bytes}
 use Rattle.octets.proofs.put8.Statement.{statement}
 use Rattle.octets.proofs.put8.Tie as tie
-use Rattle.octets.proofs.put8.Reads as reads
-use Rattle.octets.proofs.put8.Lts as lts
 
 -- src/lib.rt:46:13
 cast-s : tie.Need-cast-s

@@ -1,8 +1,8 @@
-use borrow.Author.Needs.{needs}
-use Prim.Native.Nat.{ℕ, _+_, _-_, _<_, _≤_}
-use mathlib.Core.Path.{_≡_, refl, sym, ap, _∙_}
+use Prim.Native.Nat.{_-_, _≤_}
+use mathlib.Core.Path.{_≡_, _∙_}
 use native.Mathlib.Omega.{arith}
-use lib.ListN.{length, take, drop, getD}
+use lib.ListN.{length, drop}
+use borrow.Author.Needs.{needs}
 use Rattle.octets.specs.Octets.{same}
 use Rattle.octets.proofs.Turns.{same-more, same-stop, same-end, same-long}
 use Rattle.octets.proofs.same.Statement.{statement}

@@ -1,8 +1,8 @@
-use borrow.Author.Needs.{needs}
 use Prim.Native.Nat.{_-_, _≤_}
 use mathlib.Core.Path.{_≡_, _∙_}
 use native.Mathlib.Omega.{arith}
 use lib.ListN.{length, drop}
+use borrow.Author.Needs.{needs}
 use Rattle.wire.specs.Votes.{good}
 use Rattle.votes.proofs.Tallies.{good-more, good-stop, good-end}
 use Rattle.votes.proofs.all_good.Statement.{statement}

@@ -1,8 +1,8 @@
-use Rattle.votes.specs.Tally.{votesJudged}
 use native.Mathlib.Omega.{arith}
+use lib.Count.{ones-le}
 use borrow.Author.Needs.{needs}
 use borrow.Author.Tests.{le-leb, lt-leb, not-true, not-false}
-use lib.Count.{ones-le}
+use Rattle.votes.specs.Tally.{votesJudged}
 use Rattle.votes.proofs.judge_votes.Statement.{statement}
 use Rattle.votes.proofs.judge_votes.Tie as tie
 

@@ -1,8 +1,8 @@
 use Prim.Native.Nat.{_+_, _-_, _*_, _<_, _≤_}
 use native.Mathlib.Nat.{sub-zero}
 use native.Mathlib.Omega.{arith}
-use borrow.Author.Needs.{needs}
 use lib.ListN.{length}
+use borrow.Author.Needs.{needs}
 use Rattle.wire.specs.Votes.{signers}
 use Rattle.votes.proofs.Tallies.{Counting, counting-none, counting-more, counting-all, signers-more, signers-end, steps-more}
 use Rattle.votes.proofs.tally_of.Statement.{statement}

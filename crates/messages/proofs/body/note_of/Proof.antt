@@ -1,14 +1,11 @@
-use Rattle.wire.specs.Readers.{held}
-use lib.ListN.{length}
 use Prim.Native.Nat.{ℕ}
 use mathlib.Core.List.{List}
 use mathlib.Core.Path.{_≡_, ap}
+use lib.ListN.{length}
 use borrow.Author.Needs.{needs}
+use Rattle.wire.specs.Readers.{held}
 use Rattle.messages.proofs.body.note_of.Statement.{statement}
 use Rattle.messages.proofs.body.note_of.Tie as tie
-use Rattle.messages.proofs.body.note_of.Reads as reads
-use Rattle.messages.proofs.body.note_of.Lts as lts
-use Rattle.octets.proofs.copy.Reads as copy-reads
 
 -- src/body.rt:77:18
 slice-aggregate-copy : tie.Need-slice-aggregate-copy

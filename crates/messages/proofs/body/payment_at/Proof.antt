@@ -1,16 +1,11 @@
+use Prim.Native.Nat.{_-_}
+use mathlib.Core.Path.{_≡_, ap, _∙_}
+use native.Mathlib.Omega.{arith}
 use Rattle.octets.specs.Octets.{one, two, four, number}
 use Rattle.wire.specs.Messages.{payment}
 use Rattle.messages.proofs.Passing.{body-places}
-use native.Mathlib.Omega.{arith}
-use mathlib.Core.Path.{_≡_, refl, sym, ap, _∙_}
-use Prim.Native.Nat.{ℕ, _-_}
 use Rattle.messages.proofs.body.payment_at.Statement.{statement}
 use Rattle.messages.proofs.body.payment_at.Tie as tie
-use Rattle.messages.proofs.body.payment_at.Reads as reads
-use Rattle.messages.proofs.body.payment_at.Lts as lts
-use Rattle.octets.proofs.get16.Reads as get16-reads
-use Rattle.octets.proofs.get32.Reads as get32-reads
-use Rattle.octets.proofs.get8.Reads as get8-reads
 
 -- src/body.rt:47:44
 sub-get8 : tie.Need-sub-get8

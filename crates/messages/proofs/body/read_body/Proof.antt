@@ -1,22 +1,17 @@
+use Prim.Native.Nat.{ℕ}
+use mathlib.Core.List.{List, []}
+use mathlib.Core.Path.{_≡_, sym, ap, _∙_}
+use native.Mathlib.Omega.{arith}
+use borrow.Author.Needs.{needs}
 use Rattle.wire.specs.declared.kinds.Note.{Note}
 use Rattle.wire.specs.Readers.{BodyShown, readPayment, isBody, noteHeld, readBody}
 use Rattle.wire.specs.Refusals.{Said}
 use Rattle.wire.specs.Messages.{noteIn}
 use Rattle.wire.specs.Fields.{need}
-use Rattle.messages.proofs.Onward.{payment-read, payment-refused}
 use Rattle.wire.proofs.Laid.{body-laid}
-use native.Mathlib.Omega.{arith}
-use Prim.Native.Nat.{ℕ}
-use mathlib.Core.List.{List, []}
-use mathlib.Core.Path.{_≡_, refl, sym, ap, _∙_}
-use borrow.Author.Needs.{needs}
+use Rattle.messages.proofs.Onward.{payment-read, payment-refused}
 use Rattle.messages.proofs.body.read_body.Statement.{statement}
 use Rattle.messages.proofs.body.read_body.Tie as tie
-use Rattle.messages.proofs.body.read_body.Reads as reads
-use Rattle.messages.proofs.body.read_body.Lts as lts
-use Rattle.octets.proofs.cut.Reads as cut-reads
-use Rattle.messages.proofs.body.note_of.Reads as note-of-reads
-use Rattle.messages.proofs.body.read_payment.Reads as read-payment-reads
 
 -- the answer and the note, together
 shown : (m : List ℕ) (a : Said) (n : Note) → a ≡ readPayment m → n ≡ noteHeld (need (isBody m) [] (noteIn m)) → _≡_ {A = BodyShown} (record { answer = a; note = n }) (readBody m)

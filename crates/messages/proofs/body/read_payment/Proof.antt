@@ -1,20 +1,14 @@
-use Rattle.wire.specs.declared.kinds.Payment.{Payment}
-use Rattle.wire.specs.Messages.{isPayment, payment}
-use Rattle.wire.specs.Readers.{readPayment, readFunding}
-use Rattle.wire.specs.Refusals.{gives, paymentValues, fundingValues}
-use Rattle.wire.specs.Fields.{want, wantNone, laid, after, ends}
-use Rattle.messages.proofs.Passing.{passing-laid}
-use borrow.Author.Tests.{lt-ltb, le-ltb, le-leb, lt-leb, eq-eqb, ne-eqb, not-true, not-false}
-use mathlib.Core.Path.{_≡_, refl, sym, ap, _∙_}
+use mathlib.Core.Path.{sym, ap, _∙_}
+use borrow.Author.Tests.{not-true, not-false}
 use borrow.Author.Needs.{needs}
+use Rattle.wire.specs.declared.kinds.Payment.{Payment}
+use Rattle.wire.specs.Messages.{isPayment}
+use Rattle.wire.specs.Readers.{readPayment}
+use Rattle.wire.specs.Refusals.{gives, paymentValues}
+use Rattle.wire.specs.Fields.{want}
+use Rattle.messages.proofs.Passing.{passing-laid}
 use Rattle.messages.proofs.body.read_payment.Statement.{statement}
 use Rattle.messages.proofs.body.read_payment.Tie as tie
-use Rattle.messages.proofs.body.read_payment.Reads as reads
-use Rattle.messages.proofs.body.read_payment.Lts as lts
-use Rattle.messages.proofs.body.payment_at.Reads as payment-at-reads
-use Rattle.messages.proofs.body.places.Reads as places-reads
-use Rattle.wire.proofs.fields.whole.Reads as whole-reads
-use Rattle.wire.proofs.kinds.Payment.in_range.Reads as in-range-reads
 
 places-requires : tie.Need-places-requires
 places-requires c κs = search needs

@@ -1,25 +1,20 @@
-use Rattle.messages.specs.Steps.{certificateBody}
-use Rattle.wire.specs.Readers.{readPayment}
-use Rattle.wire.specs.Refusals.{Said, gives, refuses}
-use Rattle.wire.specs.Messages.{inside}
-use Rattle.messages.proofs.Onward.{payment-onward, payment-read}
-use Rattle.wire.proofs.Laid.{enclosed, not-enclosed}
-use Rattle.octets.specs.Octets.{cut}
-use Rattle.wire.specs.Fields.{wantAll, size}
-use native.Mathlib.Omega.{arith}
-use Prim.Native.Nat.{ℕ, _+_, _-_}
-use lib.Dec.{lit<}
+use Prim.Native.Nat.{ℕ, _-_}
 use mathlib.Core.List.{List, [], _∷_}
-use borrow.Author.Tests.{lt-ltb, le-ltb, le-leb, lt-leb, eq-eqb, ne-eqb, not-true, not-false}
-use mathlib.Core.Path.{_≡_, refl, sym, ap, _∙_}
+use mathlib.Core.Path.{_≡_, ap, _∙_}
+use native.Mathlib.Omega.{arith}
+use lib.Dec.{lit<}
+use borrow.Author.Tests.{le-leb, lt-leb}
 use borrow.Author.Needs.{needs}
+use Rattle.octets.specs.Octets.{cut}
+use Rattle.wire.specs.Readers.{readPayment}
+use Rattle.wire.specs.Refusals.{gives, refuses}
+use Rattle.wire.specs.Messages.{inside}
+use Rattle.wire.specs.Fields.{wantAll, size}
+use Rattle.wire.proofs.Laid.{enclosed, not-enclosed}
+use Rattle.messages.specs.Steps.{certificateBody}
+use Rattle.messages.proofs.Onward.{payment-onward, payment-read}
 use Rattle.messages.proofs.certificate.certificate_body.Statement.{statement}
 use Rattle.messages.proofs.certificate.certificate_body.Tie as tie
-use Rattle.messages.proofs.certificate.certificate_body.Reads as reads
-use Rattle.messages.proofs.certificate.certificate_body.Lts as lts
-use Rattle.octets.proofs.cut.Reads as cut-reads
-use Rattle.messages.proofs.body.read_payment.Reads as read-payment-reads
-use Rattle.messages.proofs.certificate.certificate_end.Reads as certificate-end-reads
 
 -- equal places and values make equal answers
 body-values : {a b : ℕ} {vs ws : List ℕ} → a ≡ b → vs ≡ ws → gives (a ∷ vs) ≡ gives (b ∷ ws)

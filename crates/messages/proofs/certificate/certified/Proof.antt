@@ -1,10 +1,8 @@
-use Rattle.messages.specs.Steps.{votedFor}
-use mathlib.Core.Path.{_≡_, refl, sym, ap, _∙_}
+use mathlib.Core.Path.{sym, ap}
 use borrow.Author.Needs.{needs}
+use Rattle.messages.specs.Steps.{votedFor}
 use Rattle.messages.proofs.certificate.certified.Statement.{statement}
 use Rattle.messages.proofs.certificate.certified.Tie as tie
-use Rattle.messages.proofs.certificate.certified.Reads as reads
-use Rattle.messages.proofs.certificate.certified.Lts as lts
 
 -- src/certificate.rt:39:30
 enum-known-votes : tie.Need-enum-known-votes

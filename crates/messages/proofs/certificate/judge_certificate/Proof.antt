@@ -1,25 +1,16 @@
-use Rattle.votes.specs.Tally.{Tallied, votesJudged}
-use Rattle.wire.specs.Readers.{readCertificateOf, judgedBy}
+use Prim.Native.Nat.{_*_}
+use mathlib.Core.Path.{sym, ap, _∙_}
+use native.Mathlib.Omega.{arith}
+use lib.ListN.{length}
+use borrow.Author.Tests.{eq-eqb, ne-eqb}
+use borrow.Author.Needs.{needs}
+use Rattle.wire.specs.Readers.{judgedBy}
 use Rattle.wire.specs.Votes.{votes, signersIn, good}
 use Rattle.wire.specs.Refusals.{certificateSaid}
+use Rattle.votes.specs.Tally.{Tallied, votesJudged}
 use Rattle.messages.proofs.Onward.{body-onward, opened, votes-certify}
-use lib.ListN.{length}
-use native.Mathlib.Omega.{arith}
-use Prim.Native.Nat.{ℕ, _+_, _-_, _*_, _/_}
-use mathlib.Core.Bool.{true}
-use mathlib.Core.List.{List, [], _∷_}
-use borrow.Author.Tests.{lt-ltb, le-ltb, le-leb, lt-leb, eq-eqb, ne-eqb, not-true, not-false}
-use mathlib.Core.Path.{_≡_, refl, sym, ap, _∙_}
-use borrow.Author.Needs.{needs}
 use Rattle.messages.proofs.certificate.judge_certificate.Statement.{statement}
 use Rattle.messages.proofs.certificate.judge_certificate.Tie as tie
-use Rattle.messages.proofs.certificate.judge_certificate.Reads as reads
-use Rattle.messages.proofs.certificate.judge_certificate.Lts as lts
-use Rattle.messages.proofs.certificate.certificate_body.Reads as certificate-body-reads
-use Rattle.messages.proofs.certificate.certified.Reads as certified-reads
-use Rattle.votes.proofs.all_good.Reads as all-good-reads
-use Rattle.votes.proofs.judge_votes.Reads as judge-votes-reads
-use Rattle.votes.proofs.tally_of.Reads as tally-of-reads
 
 certificate-body-requires : tie.Need-certificate-body-requires
 certificate-body-requires c κs = search needs

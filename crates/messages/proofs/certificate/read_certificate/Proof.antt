@@ -1,23 +1,15 @@
-use Rattle.votes.specs.Tally.{Tallied}
-use Rattle.wire.specs.Readers.{readCertificateOf, judgedBy}
-use Rattle.wire.specs.Votes.{votes, signersIn, good}
-use Rattle.wire.specs.Refusals.{certificateSaid}
-use Rattle.messages.proofs.Onward.{body-onward, opened, votes-certify}
-use native.Mathlib.Omega.{arith}
-use Prim.Native.Nat.{ℕ, _+_, _-_, _*_, _/_}
+use Prim.Native.Nat.{_*_}
 use mathlib.Core.Bool.{true}
-use mathlib.Core.List.{List, [], _∷_}
-use borrow.Author.Tests.{lt-ltb, le-ltb, le-leb, lt-leb, eq-eqb, ne-eqb, not-true, not-false}
-use mathlib.Core.Path.{_≡_, refl, sym, ap, _∙_}
+use mathlib.Core.Path.{ap, _∙_}
+use native.Mathlib.Omega.{arith}
 use borrow.Author.Needs.{needs}
+use Rattle.wire.specs.Readers.{readCertificateOf}
+use Rattle.wire.specs.Votes.{signersIn}
+use Rattle.wire.specs.Refusals.{certificateSaid}
+use Rattle.votes.specs.Tally.{Tallied}
+use Rattle.messages.proofs.Onward.{body-onward, opened, votes-certify}
 use Rattle.messages.proofs.certificate.read_certificate.Statement.{statement}
 use Rattle.messages.proofs.certificate.read_certificate.Tie as tie
-use Rattle.messages.proofs.certificate.read_certificate.Reads as reads
-use Rattle.messages.proofs.certificate.read_certificate.Lts as lts
-use Rattle.messages.proofs.certificate.certificate_body.Reads as certificate-body-reads
-use Rattle.messages.proofs.certificate.certified.Reads as certified-reads
-use Rattle.votes.proofs.judge_votes.Reads as judge-votes-reads
-use Rattle.votes.proofs.tally_of.Reads as tally-of-reads
 
 certificate-body-requires : tie.Need-certificate-body-requires
 certificate-body-requires c κs = search needs

@@ -1,18 +1,10 @@
-use Rattle.wire.proofs.Laid.{enclosed, not-enclosed}
-use Rattle.wire.specs.Fields.{want, wantAll, size}
-use native.Mathlib.Omega.{arith}
-use Prim.Native.Nat.{ℕ, _+_, _-_}
+use mathlib.Core.List.{[], _∷_}
 use lib.Dec.{lit<}
-use mathlib.Core.List.{List, [], _∷_}
-use borrow.Author.Tests.{lt-ltb, le-ltb, le-leb, lt-leb, eq-eqb, ne-eqb, not-true, not-false}
-use mathlib.Core.Path.{_≡_, refl, sym, ap, _∙_}
 use borrow.Author.Needs.{needs}
+use Rattle.wire.specs.Fields.{want}
+use Rattle.wire.proofs.Laid.{enclosed, not-enclosed}
 use Rattle.messages.proofs.covered.body_end.Statement.{statement}
 use Rattle.messages.proofs.covered.body_end.Tie as tie
-use Rattle.messages.proofs.covered.body_end.Reads as reads
-use Rattle.messages.proofs.covered.body_end.Lts as lts
-use Rattle.messages.proofs.certificate.certificate_end.Reads as certificate-end-reads
-use Rattle.messages.proofs.order.order_end.Reads as order-end-reads
 
 order-end-requires : tie.Need-order-end-requires
 order-end-requires c κs = search needs

@@ -1,24 +1,19 @@
+use Prim.Native.Nat.{_-_}
+use mathlib.Core.Bool.{true, false}
+use mathlib.Core.List.{[], _∷_}
+use mathlib.Core.Path.{_≡_, sym, ap, _∙_}
+use native.Mathlib.Omega.{arith}
+use lib.Dec.{lit<}
+use borrow.Author.Tests.{not-true, not-false}
+use borrow.Author.Needs.{needs}
+use denote.Ref.{now}
+use Rattle.octets.specs.Octets.{cut}
 use Rattle.wire.specs.Readers.{isBody, covered}
 use Rattle.wire.specs.Messages.{inside}
-use Rattle.wire.proofs.Laid.{either-found, either-lost}
-use Rattle.octets.specs.Octets.{cut}
-use mathlib.Core.Bool.{true, false}
-use denote.Ref.{now}
 use Rattle.wire.specs.Fields.{want, wantAll, size}
-use native.Mathlib.Omega.{arith}
-use Prim.Native.Nat.{ℕ, _+_, _-_}
-use lib.Dec.{lit<}
-use mathlib.Core.List.{List, [], _∷_}
-use borrow.Author.Tests.{lt-ltb, le-ltb, le-leb, lt-leb, eq-eqb, ne-eqb, not-true, not-false}
-use mathlib.Core.Path.{_≡_, refl, sym, ap, _∙_}
-use borrow.Author.Needs.{needs}
+use Rattle.wire.proofs.Laid.{either-found, either-lost}
 use Rattle.messages.proofs.covered.covered.Statement.{statement}
 use Rattle.messages.proofs.covered.covered.Tie as tie
-use Rattle.messages.proofs.covered.covered.Reads as reads
-use Rattle.messages.proofs.covered.covered.Lts as lts
-use Rattle.octets.proofs.cut.Reads as cut-reads
-use Rattle.messages.proofs.covered.body_end.Reads as body-end-reads
-use Rattle.messages.proofs.covered.is_body.Reads as is-body-reads
 
 body-end-requires : tie.Need-body-end-requires
 body-end-requires c κs = search needs

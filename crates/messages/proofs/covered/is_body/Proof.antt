@@ -1,11 +1,8 @@
-use Rattle.messages.proofs.Onward.{payment-read, payment-refused}
-use mathlib.Core.Path.{_≡_, refl, sym, ap, _∙_}
+use mathlib.Core.Path.{sym}
 use borrow.Author.Needs.{needs}
+use Rattle.messages.proofs.Onward.{payment-read, payment-refused}
 use Rattle.messages.proofs.covered.is_body.Statement.{statement}
 use Rattle.messages.proofs.covered.is_body.Tie as tie
-use Rattle.messages.proofs.covered.is_body.Reads as reads
-use Rattle.messages.proofs.covered.is_body.Lts as lts
-use Rattle.messages.proofs.body.read_payment.Reads as read-payment-reads
 
 read-payment-requires : tie.Need-read-payment-requires
 read-payment-requires c κs = search needs

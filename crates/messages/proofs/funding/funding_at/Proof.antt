@@ -1,16 +1,11 @@
+use Prim.Native.Nat.{_-_}
+use mathlib.Core.Path.{_≡_, ap, _∙_}
+use native.Mathlib.Omega.{arith}
 use Rattle.octets.specs.Octets.{one, two, four, number}
 use Rattle.wire.specs.Messages.{funding}
 use Rattle.messages.proofs.Passing.{funding-places}
-use native.Mathlib.Omega.{arith}
-use mathlib.Core.Path.{_≡_, refl, sym, ap, _∙_}
-use Prim.Native.Nat.{ℕ, _-_}
 use Rattle.messages.proofs.funding.funding_at.Statement.{statement}
 use Rattle.messages.proofs.funding.funding_at.Tie as tie
-use Rattle.messages.proofs.funding.funding_at.Reads as reads
-use Rattle.messages.proofs.funding.funding_at.Lts as lts
-use Rattle.octets.proofs.get16.Reads as get16-reads
-use Rattle.octets.proofs.get32.Reads as get32-reads
-use Rattle.octets.proofs.get8.Reads as get8-reads
 
 -- src/funding.rt:41:52
 sub-get16 : tie.Need-sub-get16

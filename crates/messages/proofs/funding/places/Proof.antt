@@ -1,16 +1,10 @@
+use mathlib.Core.Path.{ap, _∙_}
+use borrow.Author.Needs.{needs}
 use Rattle.wire.specs.declared.fields.Want.{Want}
-use mathlib.Core.Path.{_≡_, refl, sym, ap, _∙_}
-use Prim.Native.Nat.{ℕ}
 use Rattle.wire.specs.Fields.{want, wantNone, after}
 use Rattle.messages.proofs.Passing.{linked}
-use borrow.Author.Needs.{needs}
 use Rattle.messages.proofs.funding.places.Statement.{statement}
 use Rattle.messages.proofs.funding.places.Tie as tie
-use Rattle.messages.proofs.funding.places.Reads as reads
-use Rattle.messages.proofs.funding.places.Lts as lts
-use Rattle.wire.proofs.fields.Want.none.Reads as none-reads
-use Rattle.wire.proofs.fields.Want.one.Reads as one-reads
-use Rattle.wire.proofs.fields.read_fields.Reads as read-fields-reads
 
 one-requires : tie.Need-one-requires
 one-requires c κs = search needs

@@ -1,20 +1,14 @@
+use mathlib.Core.Path.{sym, ap, _∙_}
+use borrow.Author.Tests.{not-true, not-false}
+use borrow.Author.Needs.{needs}
 use Rattle.wire.specs.declared.kinds.Funding.{Funding}
-use Rattle.wire.specs.Messages.{isFunding, funding}
-use Rattle.wire.specs.Readers.{readPayment, readFunding}
-use Rattle.wire.specs.Refusals.{gives, paymentValues, fundingValues}
+use Rattle.wire.specs.Messages.{isFunding}
+use Rattle.wire.specs.Readers.{readFunding}
+use Rattle.wire.specs.Refusals.{gives, fundingValues}
 use Rattle.wire.specs.Fields.{want, wantNone, laid, after, ends}
 use Rattle.messages.proofs.Passing.{passing-laid}
-use borrow.Author.Tests.{lt-ltb, le-ltb, le-leb, lt-leb, eq-eqb, ne-eqb, not-true, not-false}
-use mathlib.Core.Path.{_≡_, refl, sym, ap, _∙_}
-use borrow.Author.Needs.{needs}
 use Rattle.messages.proofs.funding.read_funding.Statement.{statement}
 use Rattle.messages.proofs.funding.read_funding.Tie as tie
-use Rattle.messages.proofs.funding.read_funding.Reads as reads
-use Rattle.messages.proofs.funding.read_funding.Lts as lts
-use Rattle.wire.proofs.fields.whole.Reads as whole-reads
-use Rattle.messages.proofs.funding.funding_at.Reads as funding-at-reads
-use Rattle.messages.proofs.funding.places.Reads as places-reads
-use Rattle.wire.proofs.kinds.Funding.in_range.Reads as in-range-reads
 
 places-requires : tie.Need-places-requires
 places-requires c κs = search needs

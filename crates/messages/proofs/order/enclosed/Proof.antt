@@ -1,13 +1,9 @@
-use Rattle.messages.proofs.Passing.{linked, passing-laid}
-use borrow.Author.Tests.{lt-ltb, le-ltb, le-leb, lt-leb, eq-eqb, ne-eqb, not-true, not-false}
-use mathlib.Core.Path.{_≡_, refl, sym, ap, _∙_}
+use mathlib.Core.Path.{sym, _∙_}
+use borrow.Author.Tests.{not-true, not-false}
 use borrow.Author.Needs.{needs}
+use Rattle.messages.proofs.Passing.{linked, passing-laid}
 use Rattle.messages.proofs.order.enclosed.Statement.{statement}
 use Rattle.messages.proofs.order.enclosed.Tie as tie
-use Rattle.messages.proofs.order.enclosed.Reads as reads
-use Rattle.messages.proofs.order.enclosed.Lts as lts
-use Rattle.wire.proofs.fields.read_fields.Reads as read-fields-reads
-use Rattle.wire.proofs.fields.whole.Reads as whole-reads
 
 read-fields-requires : tie.Need-read-fields-requires
 read-fields-requires c κs = search needs

@@ -1,21 +1,15 @@
+use Prim.Native.Nat.{_-_}
+use mathlib.Core.List.{[], _∷_}
+use mathlib.Core.Path.{_≡_, ap, _∙_}
+use native.Mathlib.Omega.{arith}
+use lib.Dec.{lit<}
+use borrow.Author.Needs.{needs}
+use Rattle.octets.specs.Octets.{cut}
 use Rattle.wire.specs.Readers.{readPayment}
 use Rattle.wire.specs.Fields.{want, size}
 use Rattle.wire.proofs.Laid.{enclosed, not-enclosed}
-use Rattle.octets.specs.Octets.{cut}
-use native.Mathlib.Omega.{arith}
-use Prim.Native.Nat.{ℕ, _+_, _-_}
-use lib.Dec.{lit<}
-use mathlib.Core.List.{[], _∷_}
-use borrow.Author.Tests.{lt-ltb, le-ltb, le-leb, lt-leb, eq-eqb, ne-eqb, not-true, not-false}
-use mathlib.Core.Path.{_≡_, refl, sym, ap, _∙_}
-use borrow.Author.Needs.{needs}
 use Rattle.messages.proofs.order.order_payment.Statement.{statement}
 use Rattle.messages.proofs.order.order_payment.Tie as tie
-use Rattle.messages.proofs.order.order_payment.Reads as reads
-use Rattle.messages.proofs.order.order_payment.Lts as lts
-use Rattle.octets.proofs.cut.Reads as cut-reads
-use Rattle.messages.proofs.body.read_payment.Reads as read-payment-reads
-use Rattle.messages.proofs.order.order_end.Reads as order-end-reads
 
 order-end-requires : tie.Need-order-end-requires
 order-end-requires c κs = search needs

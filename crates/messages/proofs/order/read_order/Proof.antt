@@ -1,29 +1,22 @@
+use Prim.Native.Nat.{ℕ, _+_, _-_, _≤_}
+use mathlib.Core.Bool.{true}
+use mathlib.Core.List.{List, [], _∷_}
+use mathlib.Core.Path.{_≡_, sym, ap, _∙_}
+use native.Mathlib.Omega.{arith}
+use lib.ListN.{length}
+use borrow.Author.Needs.{needs}
+use denote.Ref.{now}
+use Rattle.octets.specs.Octets.{two, number, cut}
 use Rattle.wire.specs.declared.kinds.Note.{Note}
 use Rattle.wire.specs.Readers.{OrderShown, readOrderPayment, isOrder, held, noteHeld, readOrder}
 use Rattle.wire.specs.Refusals.{Said, gives}
 use Rattle.wire.specs.Messages.{noteIn, inside, signatureIn}
 use Rattle.wire.specs.Fields.{need}
-use Rattle.messages.proofs.Onward.{order-read, payment-read, order-refused}
 use Rattle.wire.proofs.Laid.{order-laid, body-laid}
 use Rattle.wire.proofs.FieldLaws.{length-cut}
-use Rattle.octets.specs.Octets.{two, number, cut}
-use denote.Ref.{now}
-use lib.ListN.{length}
-use native.Mathlib.Omega.{arith}
-use Prim.Native.Nat.{ℕ, _+_, _-_, _≤_}
-use mathlib.Core.Bool.{true, _&&_}
-use mathlib.Core.List.{List, [], _∷_}
-use mathlib.Core.Path.{_≡_, refl, sym, ap, _∙_}
-use borrow.Author.Needs.{needs}
+use Rattle.messages.proofs.Onward.{order-read, payment-read, order-refused}
 use Rattle.messages.proofs.order.read_order.Statement.{statement}
 use Rattle.messages.proofs.order.read_order.Tie as tie
-use Rattle.messages.proofs.order.read_order.Reads as reads
-use Rattle.messages.proofs.order.read_order.Lts as lts
-use Rattle.octets.proofs.cut.Reads as cut-reads
-use Rattle.messages.proofs.body.note_of.Reads as note-of-reads
-use Rattle.wire.proofs.fields.size_at.Reads as size-at-reads
-use Rattle.messages.proofs.order.order_payment.Reads as order-payment-reads
-use Rattle.messages.proofs.order.signature_of.Reads as signature-of-reads
 
 -- the answer, the note and the signature, together
 shown : (m : List ℕ) (a : Said) (n : Note) (s : List ℕ) → a ≡ readOrderPayment m → n ≡ noteHeld (need (isOrder m) [] (noteIn (inside m)))

@@ -1,5 +1,5 @@
-use borrow.Author.Needs.{needs}
 use native.Mathlib.Omega.{arith}
+use borrow.Author.Needs.{needs}
 use Rattle.wire.specs.Messages.{bodyBytes}
 use Rattle.messages.proofs.Written.{lengths, put-behind, payment-fits}
 use Rattle.messages.proofs.write.put_body.Statement.{statement}

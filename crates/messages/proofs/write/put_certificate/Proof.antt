@@ -1,5 +1,5 @@
-use borrow.Author.Needs.{needs}
 use native.Mathlib.Omega.{arith}
+use borrow.Author.Needs.{needs}
 use Rattle.wire.specs.Votes.{certificateBytes}
 use Rattle.messages.proofs.Written.{lengths, put-behind}
 use Rattle.messages.proofs.write.put_certificate.Statement.{statement}

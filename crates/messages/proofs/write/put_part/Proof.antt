@@ -1,5 +1,5 @@
-use borrow.Author.Needs.{needs}
 use mathlib.Core.Path.{refl}
+use borrow.Author.Needs.{needs}
 use Rattle.messages.proofs.Written.{put-value}
 use Rattle.messages.proofs.write.put_part.Statement.{statement}
 use Rattle.messages.proofs.write.put_part.Tie as tie

@@ -1,5 +1,5 @@
-use borrow.Author.Needs.{needs}
 use native.Mathlib.Omega.{arith}
+use borrow.Author.Needs.{needs}
 use Rattle.messages.proofs.Written.{lengths, put-behind, put-value}
 use Rattle.messages.proofs.write.put_recipient.Statement.{statement}
 use Rattle.messages.proofs.write.put_recipient.Tie as tie

@@ -1,9 +1,9 @@
 -- The invariant: the votes that are left, put from `place` on, complete what is to be put.
-use borrow.Author.Needs.{needs}
-use native.Mathlib.Omega.{arith}
 use Prim.Native.Nat.{_+_, _-_, _*_, _/_, _%_, _≤_}
 use mathlib.Core.Path.{_≡_, sym, _∙_}
+use native.Mathlib.Omega.{arith}
 use lib.ListN.{length, drop}
+use borrow.Author.Needs.{needs}
 use Rattle.octets.specs.Octets.{put}
 use Rattle.messages.proofs.Written.{allVotes, put-vote, put-no-vote}
 use Rattle.messages.proofs.write.put_votes.Statement.{statement}

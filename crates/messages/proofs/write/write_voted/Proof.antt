@@ -1,6 +1,6 @@
-use borrow.Author.Needs.{needs}
 use mathlib.Core.Path.{_∙_}
 use mathlib.Core.Bool.{true}
+use borrow.Author.Needs.{needs}
 use Rattle.wire.specs.Writers.{unwritten, writeVotedOf}
 use Rattle.messages.proofs.Onward.{votes-onward}
 use Rattle.messages.proofs.Written.{length-certificate, writes-small, writes-room}

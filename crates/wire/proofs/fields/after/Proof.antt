@@ -1,12 +1,8 @@
 use Rattle.wire.specs.Fields.{after}
-use borrow.Author.Tests.{lt-ltb, le-ltb, le-leb, lt-leb, eq-eqb, ne-eqb, not-true, not-false}
+use borrow.Author.Tests.{eq-eqb, ne-eqb}
 use borrow.Author.Needs.{needs}
 use Rattle.wire.proofs.fields.after.Statement.{statement}
 use Rattle.wire.proofs.fields.after.Tie as tie
-use Rattle.wire.proofs.fields.after.Reads as reads
-use Rattle.wire.proofs.fields.after.Lts as lts
-use Rattle.wire.proofs.fields.past.Reads as past-reads
-use Rattle.wire.proofs.fields.past_all.Reads as past-all-reads
 
 returns : tie.Need-returns
 unfolding after

@@ -2,15 +2,10 @@ use Rattle.wire.specs.Fields.{past}
 use native.Mathlib.Omega.{arith}
 use lib.ListN.{length}
 use Prim.Native.Nat.{_+_}
-use borrow.Author.Tests.{lt-ltb, le-ltb, le-leb, lt-leb, eq-eqb, ne-eqb, not-true, not-false}
-use mathlib.Core.Path.{_≡_, refl, sym, ap, _∙_}
+use borrow.Author.Tests.{le-leb, lt-leb, eq-eqb, ne-eqb}
 use borrow.Author.Needs.{needs}
 use Rattle.wire.proofs.fields.past.Statement.{statement}
 use Rattle.wire.proofs.fields.past.Tie as tie
-use Rattle.wire.proofs.fields.past.Reads as reads
-use Rattle.wire.proofs.fields.past.Lts as lts
-use Rattle.octets.proofs.get8.Reads as get8-reads
-use Rattle.wire.proofs.fields.size_at.Reads as size-at-reads
 
 -- src/fields.rt:89:9
 returns : tie.Need-returns

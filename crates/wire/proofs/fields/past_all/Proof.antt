@@ -6,13 +6,9 @@ use native.Mathlib.Omega.{arith}
 use borrow.Author.Needs.{needs}
 use lib.ListN.{length}
 use Prim.Native.Nat.{ℕ, zero, suc, _+_, _-_, _≤_, _<_}
-use borrow.Author.Tests.{lt-ltb, le-ltb, le-leb, lt-leb, eq-eqb, ne-eqb, not-true, not-false}
 use mathlib.Core.Path.{_≡_, refl, sym, ap, _∙_}
 use Rattle.wire.proofs.fields.past_all.Statement.{statement}
 use Rattle.wire.proofs.fields.past_all.Tie as tie
-use Rattle.wire.proofs.fields.past_all.Reads as reads
-use Rattle.wire.proofs.fields.past_all.Lts as lts
-use Rattle.wire.proofs.fields.past.Reads as past-reads
 
 abbrev Inv-loop : tie.InvT-loop
 Inv-loop message at tag least most place₀ place = (n : ℕ) × (length message ≤ place + n) × (pastAll (length message) message at tag least most ≡ pastAll n message place tag least most)

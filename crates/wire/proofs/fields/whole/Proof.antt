@@ -1,8 +1,6 @@
-use borrow.Author.Tests.{lt-ltb, le-ltb, le-leb, lt-leb, eq-eqb, ne-eqb, not-true, not-false}
+use borrow.Author.Tests.{le-leb, lt-leb}
 use Rattle.wire.proofs.fields.whole.Statement.{statement}
 use Rattle.wire.proofs.fields.whole.Tie as tie
-use Rattle.wire.proofs.fields.whole.Reads as reads
-use Rattle.wire.proofs.fields.whole.Lts as lts
 
 -- src/fields.rt:187:9
 returns : tie.Need-returns

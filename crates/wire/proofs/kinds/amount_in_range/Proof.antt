@@ -1,8 +1,6 @@
-use borrow.Author.Tests.{lt-ltb, le-ltb, le-leb, lt-leb, eq-eqb, ne-eqb, not-true, not-false}
+use borrow.Author.Tests.{le-leb, lt-leb}
 use Rattle.wire.proofs.kinds.amount_in_range.Statement.{statement}
 use Rattle.wire.proofs.kinds.amount_in_range.Tie as tie
-use Rattle.wire.proofs.kinds.amount_in_range.Reads as reads
-use Rattle.wire.proofs.kinds.amount_in_range.Lts as lts
 
 -- src/kinds.rt:52:9
 returns : tie.Need-returns

@@ -1,12 +1,9 @@
-use mathlib.Core.Bool.{false}
 use Prim.Native.Nat.{ℕ, zero, suc}
-use Rattle.wire.specs.Numbers.{isRecipient}
+use mathlib.Core.Bool.{false}
 use mathlib.Core.Path.{_≡_, refl, sym}
-use borrow.Author.Tests.{lt-ltb, le-ltb, le-leb, lt-leb, eq-eqb, ne-eqb, not-true, not-false}
+use Rattle.wire.specs.Numbers.{isRecipient}
 use Rattle.wire.proofs.kinds.recipient_in_range.Statement.{statement}
 use Rattle.wire.proofs.kinds.recipient_in_range.Tie as tie
-use Rattle.wire.proofs.kinds.recipient_in_range.Reads as reads
-use Rattle.wire.proofs.kinds.recipient_in_range.Lts as lts
 
 -- a kind that is neither 0 nor 1 has no range
 no-kind : (kind n : ℕ) → (kind ≡ 0 → ⊥) → (kind ≡ 1 → ⊥) → isRecipient kind n ≡ false

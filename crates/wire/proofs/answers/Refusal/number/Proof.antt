@@ -1,10 +1,8 @@
-use Rattle.wire.specs.Refusals.{refusalNumber}
 use mathlib.Core.Path.{sym, ap}
 use borrow.Author.Needs.{needs}
+use Rattle.wire.specs.Refusals.{refusalNumber}
 use Rattle.wire.proofs.answers.Refusal.number.Statement.{statement}
 use Rattle.wire.proofs.answers.Refusal.number.Tie as tie
-use Rattle.wire.proofs.answers.Refusal.number.Reads as reads
-use Rattle.wire.proofs.answers.Refusal.number.Lts as lts
 
 -- src/answers.rt:35:35
 enum-told : tie.Need-enum-told

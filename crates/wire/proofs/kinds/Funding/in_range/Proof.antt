@@ -1,14 +1,9 @@
-use borrow.Author.Tests.{lt-ltb, le-ltb, le-leb, lt-leb, eq-eqb, ne-eqb, not-true, not-false}
-use Rattle.wire.specs.Messages.{isFunding}
-use mathlib.Core.Path.{_≡_, refl, sym, ap, _∙_}
+use mathlib.Core.Path.{sym, _∙_}
+use borrow.Author.Tests.{not-true, not-false}
 use borrow.Author.Needs.{needs}
+use Rattle.wire.specs.Messages.{isFunding}
 use Rattle.wire.proofs.kinds.Funding.in_range.Statement.{statement}
 use Rattle.wire.proofs.kinds.Funding.in_range.Tie as tie
-use Rattle.wire.proofs.kinds.Funding.in_range.Reads as reads
-use Rattle.wire.proofs.kinds.Funding.in_range.Lts as lts
-use Rattle.wire.proofs.kinds.Account.in_range.Reads as kinds-Account-in-range-reads
-use Rattle.wire.proofs.kinds.FundingIndex.in_range.Reads as kinds-FundingIndex-in-range-reads
-use Rattle.wire.proofs.kinds.amount_in_range.Reads as amount-in-range-reads
 
 -- src/kinds.rt:109:13
 in-range-requires : tie.Need-in-range-requires

@@ -1,8 +1,6 @@
-use borrow.Author.Tests.{lt-ltb, le-ltb, le-leb, lt-leb, eq-eqb, ne-eqb, not-true, not-false}
+use borrow.Author.Tests.{le-leb, lt-leb}
 use Rattle.wire.proofs.kinds.FundingIndex.in_range.Statement.{statement}
 use Rattle.wire.proofs.kinds.FundingIndex.in_range.Tie as tie
-use Rattle.wire.proofs.kinds.FundingIndex.in_range.Reads as reads
-use Rattle.wire.proofs.kinds.FundingIndex.in_range.Lts as lts
 
 -- src/kinds.rt:41:13
 returns : tie.Need-returns
