@@ -3,23 +3,18 @@ use Rattle.octets.proofs.Laws.{put-halves}
 use Rattle.octets.proofs.put16.Statement.{statement}
 use Rattle.octets.proofs.put16.Tie as tie
 
--- src/lib.rt:53:5
 put8-requires : tie.Need-put8-requires
 put8-requires c κs = search needs
 
--- src/lib.rt:54:13
 add-put8 : tie.Need-add-put8
 add-put8 c = search needs
 
--- src/lib.rt:54:5
 put8-requires-2 : tie.Need-put8-requires-2
 put8-requires-2 c κs = search needs
 
--- src/lib.rt:49:1
 same-length : tie.Need-same-length
 same-length c = search needs
 
--- src/lib.rt:49:1
 returns : tie.Need-returns
 returns c = rw (put-halves 0) cc
 

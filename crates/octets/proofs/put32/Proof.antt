@@ -3,23 +3,18 @@ use Rattle.octets.proofs.Laws.{put-halves}
 use Rattle.octets.proofs.put32.Statement.{statement}
 use Rattle.octets.proofs.put32.Tie as tie
 
--- src/lib.rt:61:5
 put16-requires : tie.Need-put16-requires
 put16-requires c κs = search needs
 
--- src/lib.rt:62:14
 add-put16 : tie.Need-add-put16
 add-put16 c = search needs
 
--- src/lib.rt:62:5
 put16-requires-2 : tie.Need-put16-requires-2
 put16-requires-2 c κs = search needs
 
--- src/lib.rt:57:1
 same-length : tie.Need-same-length
 same-length c = search needs
 
--- src/lib.rt:57:1
 returns : tie.Need-returns
 returns c = rw (put-halves 1) cc
 

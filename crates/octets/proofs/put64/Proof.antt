@@ -3,23 +3,18 @@ use Rattle.octets.proofs.Laws.{put-halves}
 use Rattle.octets.proofs.put64.Statement.{statement}
 use Rattle.octets.proofs.put64.Tie as tie
 
--- src/lib.rt:69:5
 put32-requires : tie.Need-put32-requires
 put32-requires c κs = search needs
 
--- src/lib.rt:70:14
 add-put32 : tie.Need-add-put32
 add-put32 c = search needs
 
--- src/lib.rt:70:5
 put32-requires-2 : tie.Need-put32-requires-2
 put32-requires-2 c κs = search needs
 
--- src/lib.rt:65:1
 same-length : tie.Need-same-length
 same-length c = search needs
 
--- src/lib.rt:65:1
 returns : tie.Need-returns
 returns c = rw (put-halves 2) cc
 

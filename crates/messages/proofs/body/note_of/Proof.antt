@@ -7,15 +7,12 @@ use Rattle.wire.specs.Readers.{held}
 use Rattle.messages.proofs.body.note_of.Statement.{statement}
 use Rattle.messages.proofs.body.note_of.Tie as tie
 
--- src/body.rt:77:18
 slice-aggregate-copy : tie.Need-slice-aggregate-copy
 slice-aggregate-copy c = search needs
 
--- src/body.rt:77:5
 copy-requires : tie.Need-copy-requires
 copy-requires c κs = search needs
 
--- src/body.rt:72:1
 returns : tie.Need-returns
 returns c = let e : c .before .copy .last .0 ≡ held 32 (c .before .before .before .before .args .part .now) = c .before .copy .ensures in ap (λ (l : List ℕ). record { length = length (c .before .before .before .before .args .part .now); bytes = l }) e
 

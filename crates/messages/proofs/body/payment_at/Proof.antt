@@ -7,47 +7,36 @@ use Rattle.messages.proofs.Passing.{body-places}
 use Rattle.messages.proofs.body.payment_at.Statement.{statement}
 use Rattle.messages.proofs.body.payment_at.Tie as tie
 
--- src/body.rt:47:44
 sub-get8 : tie.Need-sub-get8
 sub-get8 c = omega (arith, body-places (c .before .args .body .now) (c .before .args .p) (c .before .pre .0) (c .before .pre .1))
 
--- src/body.rt:47:25
 get8-requires : tie.Need-get8-requires
 get8-requires c κs = omega (arith, body-places (c .before .args .body .now) (c .before .args .p) (c .before .pre .0) (c .before .pre .1))
 
--- src/body.rt:48:34
 sub-get8-2 : tie.Need-sub-get8-2
 sub-get8-2 c = omega (arith, body-places (c .before .before .args .body .now) (c .before .before .args .p) (c .before .before .pre .0) (c .before .before .pre .1))
 
--- src/body.rt:48:15
 get8-requires-2 : tie.Need-get8-requires-2
 get8-requires-2 c κs = omega (arith, body-places (c .before .before .args .body .now) (c .before .before .args .p) (c .before .before .pre .0) (c .before .before .pre .1))
 
--- src/body.rt:49:40
 sub-get16 : tie.Need-sub-get16
 sub-get16 c = omega (arith, body-places (c .before .before .before .args .body .now) (c .before .before .before .args .p) (c .before .before .before .pre .0) (c .before .before .before .pre .1))
 
--- src/body.rt:49:20
 get16-requires : tie.Need-get16-requires
 get16-requires c κs = omega (arith, body-places (c .before .before .before .args .body .now) (c .before .before .before .args .p) (c .before .before .before .pre .0) (c .before .before .before .pre .1))
 
--- src/body.rt:50:37
 sub-get32 : tie.Need-sub-get32
 sub-get32 c = omega (arith, body-places (c .before .before .before .before .args .body .now) (c .before .before .before .before .args .p) (c .before .before .before .before .pre .0) (c .before .before .before .before .pre .1))
 
--- src/body.rt:50:17
 get32-requires : tie.Need-get32-requires
 get32-requires c κs = omega (arith, body-places (c .before .before .before .before .args .body .now) (c .before .before .before .before .args .p) (c .before .before .before .before .pre .0) (c .before .before .before .before .pre .1))
 
--- src/body.rt:51:48
 sub-get16-2 : tie.Need-sub-get16-2
 sub-get16-2 c = omega (arith, body-places (c .before .before .before .before .before .args .body .now) (c .before .before .before .before .before .args .p) (c .before .before .before .before .before .pre .0) (c .before .before .before .before .before .pre .1))
 
--- src/body.rt:51:28
 get16-requires-2 : tie.Need-get16-requires-2
 get16-requires-2 c κs = omega (arith, body-places (c .before .before .before .before .before .args .body .now) (c .before .before .before .before .before .args .p) (c .before .before .before .before .before .pre .0) (c .before .before .before .before .before .pre .1))
 
--- src/body.rt:38:1
 returns : tie.Need-returns
 unfolding payment
 returns c = let m = c .before .before .before .before .before .before .args .body .now in

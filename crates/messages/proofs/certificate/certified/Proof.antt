@@ -4,19 +4,15 @@ use Rattle.messages.specs.Steps.{votedFor}
 use Rattle.messages.proofs.certificate.certified.Statement.{statement}
 use Rattle.messages.proofs.certificate.certified.Tie as tie
 
--- src/certificate.rt:39:30
 enum-known-votes : tie.Need-enum-known-votes
 enum-known-votes c = search needs
 
--- src/certificate.rt:40:30
 enum-known-votes-2 : tie.Need-enum-known-votes-2
 enum-known-votes-2 c = search needs
 
--- src/certificate.rt:35:1
 returns : tie.Need-returns
 returns c = ap (votedFor (c .before .before .before .args .payment)) (sym (c .before .votes .given .1))
 
--- src/certificate.rt:35:1
 returns-2 : tie.Need-returns-2
 returns-2 c = ap (votedFor (c .before .before .before .args .payment)) (sym (c .before .votes2 .given .1))
 

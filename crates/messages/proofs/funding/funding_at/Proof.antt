@@ -7,31 +7,24 @@ use Rattle.messages.proofs.Passing.{funding-places}
 use Rattle.messages.proofs.funding.funding_at.Statement.{statement}
 use Rattle.messages.proofs.funding.funding_at.Tie as tie
 
--- src/funding.rt:41:52
 sub-get16 : tie.Need-sub-get16
 sub-get16 c = omega (arith, funding-places (c .before .args .message .now) (c .before .args .p) (c .before .pre .0) (c .before .pre .1))
 
--- src/funding.rt:41:29
 get16-requires : tie.Need-get16-requires
 get16-requires c κs = omega (arith, funding-places (c .before .args .message .now) (c .before .args .p) (c .before .pre .0) (c .before .pre .1))
 
--- src/funding.rt:42:48
 sub-get8 : tie.Need-sub-get8
 sub-get8 c = omega (arith, funding-places (c .before .before .args .message .now) (c .before .before .args .p) (c .before .before .pre .0) (c .before .before .pre .1))
 
--- src/funding.rt:42:26
 get8-requires : tie.Need-get8-requires
 get8-requires c κs = omega (arith, funding-places (c .before .before .args .message .now) (c .before .before .args .p) (c .before .before .pre .0) (c .before .before .pre .1))
 
--- src/funding.rt:43:40
 sub-get32 : tie.Need-sub-get32
 sub-get32 c = omega (arith, funding-places (c .before .before .before .args .message .now) (c .before .before .before .args .p) (c .before .before .before .pre .0) (c .before .before .before .pre .1))
 
--- src/funding.rt:43:17
 get32-requires : tie.Need-get32-requires
 get32-requires c κs = omega (arith, funding-places (c .before .before .before .args .message .now) (c .before .before .before .args .p) (c .before .before .before .pre .0) (c .before .before .before .pre .1))
 
--- src/funding.rt:33:1
 returns : tie.Need-returns
 unfolding funding
 returns c = let m = c .before .before .before .before .args .message .now in

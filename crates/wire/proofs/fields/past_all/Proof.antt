@@ -26,27 +26,21 @@ turn x m place tag least most (suc n) p h f e l q = (
   q ∙ all-more n m place tag least most h ∙ ap (λ (k : ℕ). pastAll n m k tag least most) (sym e),
 )
 
--- src/fields.rt:116:5
 loop-holds : tie.Need-loop-holds Inv-loop μ-loop
 loop-holds c = (length (c .before .args .message .now), omega arith, refl)
 
--- src/fields.rt:117:9
 past-requires : tie.Need-past-requires Inv-loop μ-loop
 past-requires c κs = search needs
 
--- src/fields.rt:116:5
 loop-less : tie.Need-loop-less Inv-loop μ-loop
 loop-less c = omega (arith, ahead (c .before .before .before .before .args .message .now) (c .before .before .loop .place) (c .before .before .before .before .args .tag) (c .before .before .before .before .args .least) (c .before .before .before .before .args .most) (omega arith), c .past .ensures)
 
--- src/fields.rt:116:5
 loop-again : tie.Need-loop-again Inv-loop μ-loop
 loop-again c = let i = c .before .before .loop .inv in turn _ (c .before .before .before .before .args .message .now) (c .before .before .loop .place) (c .before .before .before .before .args .tag) (c .before .before .before .before .args .least) (c .before .before .before .before .args .most) (i .0) (c .past .result) (omega arith) (omega arith) (c .past .ensures) (i .1) (i .2)
 
--- src/fields.rt:120:9
 returns : tie.Need-returns Inv-loop μ-loop
 returns c = let i = c .before .before .loop .inv in sym (i .2 ∙ all-end (i .0) (c .before .before .before .before .args .message .now) (c .before .before .loop .place) (c .before .before .before .before .args .tag) (c .before .before .before .before .args .least) (c .before .before .before .before .args .most) (c .if1 .taken))
 
--- src/fields.rt:112:1
 returns-2 : tie.Need-returns-2 Inv-loop μ-loop
 returns-2 c = let i = c .before .before .loop .inv in sym (i .2 ∙ all-lost (i .0) (c .before .before .before .before .args .message .now) (c .before .before .loop .place) (c .before .before .before .before .args .tag) (c .before .before .before .before .args .least) (c .before .before .before .before .args .most) (omega arith) (omega arith))
 

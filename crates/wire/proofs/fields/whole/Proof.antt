@@ -2,11 +2,9 @@ use borrow.Author.Tests.{le-leb, lt-leb}
 use Rattle.wire.proofs.fields.whole.Statement.{statement}
 use Rattle.wire.proofs.fields.whole.Tie as tie
 
--- src/fields.rt:187:9
 returns : tie.Need-returns
 returns c = simp (lt-leb _ _ (c .if1 .taken))
 
--- src/fields.rt:183:1
 returns-2 : tie.Need-returns-2
 returns-2 c = simp (le-leb _ _ (c .if1 .left))
 

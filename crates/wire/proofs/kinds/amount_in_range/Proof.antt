@@ -2,11 +2,9 @@ use borrow.Author.Tests.{le-leb, lt-leb}
 use Rattle.wire.proofs.kinds.amount_in_range.Statement.{statement}
 use Rattle.wire.proofs.kinds.amount_in_range.Tie as tie
 
--- src/kinds.rt:52:9
 returns : tie.Need-returns
 returns c = simp (lt-leb _ _ (c .if1 .taken))
 
--- src/kinds.rt:48:1
 returns-2 : tie.Need-returns-2
 returns-2 c = simp (le-leb _ _ (c .if1 .left))
 

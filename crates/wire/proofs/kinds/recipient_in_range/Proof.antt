@@ -11,15 +11,12 @@ no-kind zero n a b = absurd (a refl)
 no-kind (suc zero) n a b = absurd (b refl)
 no-kind (suc (suc kind)) n a b = refl
 
--- src/kinds.rt:61:9
 returns : tie.Need-returns
 returns c = rw (c .if1 .taken)
 
--- src/kinds.rt:64:9
 returns-2 : tie.Need-returns-2
 returns-2 c = rw (c .if2 .taken)
 
--- src/kinds.rt:57:1
 returns-3 : tie.Need-returns-3
 returns-3 c = sym (no-kind (c .before .before .args .kind) (c .before .before .args .number) (c .before .if1 .left) (c .if2 .left))
 

@@ -4,147 +4,111 @@ use Rattle.wire.specs.Refusals.{refusalNumber}
 use Rattle.wire.proofs.answers.Refusal.number.Statement.{statement}
 use Rattle.wire.proofs.answers.Refusal.number.Tie as tie
 
--- src/answers.rt:35:35
 enum-told : tie.Need-enum-told
 enum-told c = search needs
 
--- src/answers.rt:36:36
 enum-told-2 : tie.Need-enum-told-2
 enum-told-2 c = search needs
 
--- src/answers.rt:37:38
 enum-told-3 : tie.Need-enum-told-3
 enum-told-3 c = search needs
 
--- src/answers.rt:38:36
 enum-told-4 : tie.Need-enum-told-4
 enum-told-4 c = search needs
 
--- src/answers.rt:39:40
 enum-told-5 : tie.Need-enum-told-5
 enum-told-5 c = search needs
 
--- src/answers.rt:40:40
 enum-told-6 : tie.Need-enum-told-6
 enum-told-6 c = search needs
 
--- src/answers.rt:41:37
 enum-told-7 : tie.Need-enum-told-7
 enum-told-7 c = search needs
 
--- src/answers.rt:42:40
 enum-told-8 : tie.Need-enum-told-8
 enum-told-8 c = search needs
 
--- src/answers.rt:43:40
 enum-told-9 : tie.Need-enum-told-9
 enum-told-9 c = search needs
 
--- src/answers.rt:44:41
 enum-told-10 : tie.Need-enum-told-10
 enum-told-10 c = search needs
 
--- src/answers.rt:45:39
 enum-told-11 : tie.Need-enum-told-11
 enum-told-11 c = search needs
 
--- src/answers.rt:46:38
 enum-told-12 : tie.Need-enum-told-12
 enum-told-12 c = search needs
 
--- src/answers.rt:47:37
 enum-told-13 : tie.Need-enum-told-13
 enum-told-13 c = search needs
 
--- src/answers.rt:48:41
 enum-told-14 : tie.Need-enum-told-14
 enum-told-14 c = search needs
 
--- src/answers.rt:49:35
 enum-told-15 : tie.Need-enum-told-15
 enum-told-15 c = search needs
 
--- src/answers.rt:50:34
 enum-told-16 : tie.Need-enum-told-16
 enum-told-16 c = search needs
 
--- src/answers.rt:51:40
 enum-told-17 : tie.Need-enum-told-17
 enum-told-17 c = search needs
 
--- src/answers.rt:52:40
 enum-told-18 : tie.Need-enum-told-18
 enum-told-18 c = search needs
 
--- src/answers.rt:31:5
 returns : tie.Need-returns
 returns c = ap refusalNumber (sym (c .enum-told .given .1))
 
--- src/answers.rt:31:5
 returns-2 : tie.Need-returns-2
 returns-2 c = ap refusalNumber (sym (c .enum-told2 .given .1))
 
--- src/answers.rt:31:5
 returns-3 : tie.Need-returns-3
 returns-3 c = ap refusalNumber (sym (c .enum-told3 .given .1))
 
--- src/answers.rt:31:5
 returns-4 : tie.Need-returns-4
 returns-4 c = ap refusalNumber (sym (c .enum-told4 .given .1))
 
--- src/answers.rt:31:5
 returns-5 : tie.Need-returns-5
 returns-5 c = ap refusalNumber (sym (c .enum-told5 .given .1))
 
--- src/answers.rt:31:5
 returns-6 : tie.Need-returns-6
 returns-6 c = ap refusalNumber (sym (c .enum-told6 .given .1))
 
--- src/answers.rt:31:5
 returns-7 : tie.Need-returns-7
 returns-7 c = ap refusalNumber (sym (c .enum-told7 .given .1))
 
--- src/answers.rt:31:5
 returns-8 : tie.Need-returns-8
 returns-8 c = ap refusalNumber (sym (c .enum-told8 .given .1))
 
--- src/answers.rt:31:5
 returns-9 : tie.Need-returns-9
 returns-9 c = ap refusalNumber (sym (c .enum-told9 .given .1))
 
--- src/answers.rt:31:5
 returns-10 : tie.Need-returns-10
 returns-10 c = ap refusalNumber (sym (c .enum-told10 .given .1))
 
--- src/answers.rt:31:5
 returns-11 : tie.Need-returns-11
 returns-11 c = ap refusalNumber (sym (c .enum-told11 .given .1))
 
--- src/answers.rt:31:5
 returns-12 : tie.Need-returns-12
 returns-12 c = ap refusalNumber (sym (c .enum-told12 .given .1))
 
--- src/answers.rt:31:5
 returns-13 : tie.Need-returns-13
 returns-13 c = ap refusalNumber (sym (c .enum-told13 .given .1))
 
--- src/answers.rt:31:5
 returns-14 : tie.Need-returns-14
 returns-14 c = ap refusalNumber (sym (c .enum-told14 .given .1))
 
--- src/answers.rt:31:5
 returns-15 : tie.Need-returns-15
 returns-15 c = ap refusalNumber (sym (c .enum-told15 .given .1))
 
--- src/answers.rt:31:5
 returns-16 : tie.Need-returns-16
 returns-16 c = ap refusalNumber (sym (c .enum-told16 .given .1))
 
--- src/answers.rt:31:5
 returns-17 : tie.Need-returns-17
 returns-17 c = ap refusalNumber (sym (c .enum-told17 .given .1))
 
--- src/answers.rt:31:5
 returns-18 : tie.Need-returns-18
 returns-18 c = ap refusalNumber (sym (c .enum-told18 .given .1))
 

@@ -5,29 +5,23 @@ use Rattle.wire.specs.Messages.{isFunding}
 use Rattle.wire.proofs.kinds.Funding.in_range.Statement.{statement}
 use Rattle.wire.proofs.kinds.Funding.in_range.Tie as tie
 
--- src/kinds.rt:109:13
 in-range-requires : tie.Need-in-range-requires
 in-range-requires c κs = search needs
 
--- src/kinds.rt:110:13
 returns : tie.Need-returns
 unfolding isFunding
 returns c = simp (sym (c .before .in-range .ensures) ∙ not-true (c .before .in-range .result) (c .if1 .taken))
 
--- src/kinds.rt:113:13
 in-range-requires-2 : tie.Need-in-range-requires-2
 in-range-requires-2 c κs = search needs
 
--- src/kinds.rt:114:13
 returns-2 : tie.Need-returns-2
 unfolding isFunding
 returns-2 c = simp (sym (c .before .before .before .before .in-range .ensures) ∙ not-false (c .before .before .before .before .in-range .result) (c .before .before .before .if1 .left), sym (c .before .in-range2 .ensures) ∙ not-true (c .before .in-range2 .result) (c .if2 .taken))
 
--- src/kinds.rt:116:9
 amount-in-range-requires : tie.Need-amount-in-range-requires
 amount-in-range-requires c κs = search needs
 
--- src/kinds.rt:105:5
 returns-3 : tie.Need-returns-3
 unfolding isFunding
 returns-3 c = simp (sym (c .before .before .before .before .before .in-range .ensures) ∙ not-false (c .before .before .before .before .before .in-range .result) (c .before .before .before .before .if1 .left), sym (c .before .before .in-range2 .ensures) ∙ not-false (c .before .before .in-range2 .result) (c .before .if2 .left)) (c .amount-in-range .ensures)
