@@ -72,7 +72,7 @@ pub fn read_order(message: &[u8]) -> OrderRead
             signature: signature_of(octets::cut(message, 0, 0)),
         },
         BodyAnswer::Pays(payment) => {
-            let size = fields::size_at(message, 0);
+            let size = octets::get16(message, 1) as usize;
             let inside = octets::cut(message, 3, size);
             OrderRead {
                 answer: BodyAnswer::Pays(payment),

@@ -73,7 +73,7 @@ pub struct Places {
 }
 
 // The length that the field at `at` says.
-pub fn size_at(message: &[u8], at: usize) -> usize
+fn size_at(message: &[u8], at: usize) -> usize
     requires { ⌜ at + 3 ≤ length (now message) ⌝ }
     ensures { λ r. ⌜ (r ≡ fields.size (now (message .entry)) at) × (r < 2 ^ 16) ⌝ }
 {
