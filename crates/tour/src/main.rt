@@ -119,13 +119,18 @@ fn run_of(a: u8, b: u8, c: u8) -> [u8; 195] {
     run
 }
 
-// A certificate with f = 1 and these votes is written and judged.
-fn certify(a: u8, b: u8, c: u8, verdicts: &[u8]) {
+// A certificate with f = 1 and the first `size` bytes of these votes is written and judged.
+fn certify(a: u8, b: u8, c: u8, size: usize, verdicts: &[u8]) {
     let mut body = [0u8; 57];
-    let size = made(write::write_body(&mut body, payment_of(1500), b""));
+    let length = made(write::write_body(&mut body, payment_of(1500), b""));
     let run = run_of(a, b, c);
     let mut space = [0u8; 512];
-    let n = made(write::write_certificate(1, &mut space, say::front(&body, size), &run));
+    let n = made(write::write_certificate(
+        1,
+        &mut space,
+        say::front(&body, length),
+        say::front(&run, size),
+    ));
     if n == 0 {
         return;
     }
@@ -133,15 +138,17 @@ fn certify(a: u8, b: u8, c: u8, verdicts: &[u8]) {
 }
 
 fn certificates() {
-    certify(0, 1, 2, b"\x01\x01\x01");
+    certify(0, 1, 2, 195, b"\x01\x01\x01");
     say::text(b"  one verdict is bad\n");
-    certify(0, 1, 2, b"\x01\x00\x01");
+    certify(0, 1, 2, 195, b"\x01\x00\x01");
     say::text(b"  one verdict is missing\n");
-    certify(0, 1, 2, b"\x01\x01");
+    certify(0, 1, 2, 195, b"\x01\x01");
     say::text(b"  machine 1 twice\n");
-    certify(0, 1, 1, b"\x01\x01\x01");
+    certify(0, 1, 1, 195, b"\x01\x01\x01");
     say::text(b"  machine 4\n");
-    certify(0, 1, 4, b"\x01\x01\x01");
+    certify(0, 1, 4, 195, b"\x01\x01\x01");
+    say::text(b"  machines 0 and 1 alone\n");
+    certify(0, 1, 2, 130, b"\x01\x01");
 }
 
 fn main() {

@@ -94,7 +94,7 @@ module _ {M : Type 1} (𝓤 : URA M) (H : Heap 𝓤) (A : Atoms 𝓤) (W : Given
   abbrev Own : Fml
   Own = B (κ, tt) .own d (mach ∷ [])
 
-  -- the struct's type and laws, and d's plans' values
+  -- the struct's type and laws, and d's parts' values
   abbrev D : Declared
   D = T.the-type (namedLft 1 0 tt (κ, tt))
 
