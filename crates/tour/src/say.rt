@@ -1,21 +1,25 @@
 // Lines on standard output.
+ghost use mathlib.Core.Path.{_≡_};
+ghost use lib.ListN.{take};
 use libc::STDOUT_FILENO;
 use wire::answers::Refusal;
 use wire::kinds::Funding;
 use wire::kinds::Payment;
 
-pub fn text(t: &[u8]) {
+pub(crate) fn text(t: &[u8]) {
     io::write_all(STDOUT_FILENO, t);
 }
 
-pub fn count(before: &[u8], n: u64) {
+pub(crate) fn count(before: &[u8], n: u64) {
     text(before);
     io::print_decimal(STDOUT_FILENO, n);
     text(b"\n");
 }
 
 // The first n bytes, or all where there are fewer.
-pub fn front(s: &[u8], n: usize) -> &[u8] {
+pub(crate) fn front(s: &[u8], n: usize) -> &[u8]
+    ensures { λ r. ⌜ now r ≡ take n (now (s .entry)) ⌝ }
+{
     if n <= s.len() {
         return octets::cut(s, 0, n);
     }
@@ -30,13 +34,13 @@ fn digits(s: &[u8]) {
     }
 }
 
-pub fn hex(s: &[u8]) {
+pub(crate) fn hex(s: &[u8]) {
     text(b"    ");
     digits(s);
     text(b"\n");
 }
 
-pub fn payment(p: Payment) {
+pub(crate) fn payment(p: Payment) {
     let sender = p.sender;
     let sequence = p.sequence;
     text(b"    account ");
@@ -52,7 +56,7 @@ pub fn payment(p: Payment) {
     count(b", sequence ", sequence.0);
 }
 
-pub fn funding(o: Funding) {
+pub(crate) fn funding(o: Funding) {
     let index = o.index;
     let account = o.account;
     text(b"    index ");
@@ -77,7 +81,7 @@ fn reason(number: u64) {
     }
 }
 
-pub fn refused(refusal: Refusal) {
+pub(crate) fn refused(refusal: Refusal) {
     let number = refusal.number();
     text(b"    refused ");
     io::print_decimal(STDOUT_FILENO, number);
