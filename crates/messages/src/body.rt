@@ -1,9 +1,8 @@
 // Bodies: what one depot pays another.
 ghost use mathlib.Core.Path.{_≡_};
 ghost use mathlib.Core.Bool.{true};
-ghost use Prim.Native.Nat.{_+_, _<_, _≤_, _^_, _-_};
+ghost use Prim.Native.Nat.{_≤_, _-_};
 ghost use lib.ListN.{length};
-ghost use Rattle.octets.specs.Octets as octets;
 ghost use Rattle.wire.specs.Fields.{laid};
 ghost use Rattle.wire.specs.Messages.{bodyFields, payment};
 ghost use Rattle.messages.specs.Steps.{bodyPlaces};

@@ -6,7 +6,7 @@ ghost use Prim.Native.Nat.{_+_, _*_, _/_, _%_, _≤_, _<_};
 ghost use lib.ListN.{length};
 ghost use Rattle.octets.specs.Octets as octets;
 ghost use Rattle.wire.specs.Fields.{field};
-ghost use Rattle.wire.specs.Messages.{isPayment, bodyBytes, orderBytes, isFunding, fundingBytes};
+ghost use Rattle.wire.specs.Messages.{isPayment, bodyBytes};
 ghost use Rattle.wire.specs.Votes.{voteFields, certificateBytes};
 ghost use Rattle.wire.specs.Writers.{written, writeBody, writeOrder, writeFunding, writeVoted, writeCertificate};
 use crate::body;

@@ -1,6 +1,6 @@
 // Votes: which machines signed, as bits of a u16, and whether they are a quorum.
 ghost use mathlib.Core.Path.{_≡_};
-ghost use Prim.Native.Nat.{_≤_, _<_, _+_, _*_, _^_};
+ghost use Prim.Native.Nat.{_≤_, _<_, _+_, _*_};
 ghost use mathlib.Core.Bool.{true, _&&_};
 ghost use lib.ListN.{length};
 ghost use Rattle.wire.specs.Votes.{signers, good};

@@ -117,10 +117,6 @@ passed-again m at tag least most b p =
     sym (rw (l, t, s, cut-join m (at + 1) 2 (at + 3) (size m at) (2 + size m at) (omega arith) (omega arith))
     (cut-join m at 1 (at + 1) (2 + size m at) (3 + size m at) (omega arith) (omega arith)))
 
--- the bytes of a field that was passed are those of the field written again
-pub field-again : (m : List ℕ) (at tag least most : ℕ) → Bytes m → (past m at tag least most ≡ lost → ⊥) → cut m at (3 + size m at) ≡ field tag (cut m (at + 3) (size m at))
-field-again m at tag least most b h = passed-again m at tag least most b (passed m at tag least most h)
-
 -- a message from a field on is that field written again, then what stands behind it
 pub drop-field : (m : List ℕ) (at tag least most n next : ℕ) → Bytes m → Passed m at tag least most → size m at ≡ n → at + 3 + n ≡ next → drop at m ≡ field tag (cut m (at + 3) n) ++ drop next m
 drop-field m at tag least most n next b p e f =

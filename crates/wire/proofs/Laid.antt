@@ -29,6 +29,15 @@ pub need-same : {A : Type 0} (t : Bool) (failed x y : A) → (t ≡ true → x �
 need-same true failed x y h = h refl
 need-same false failed x y h = refl
 
+-- a place that a test gives, or lost: where it is not lost the test held, and where it is lost the test failed
+found : (t : Bool) (n end : ℕ) → end ≡ need t lost n → (end ≡ lost → ⊥) → (t ≡ true) × (end ≡ n)
+found true n end e h = (refl, e)
+found false n end e h = absurd (h e)
+
+missed : (t : Bool) (n end : ℕ) → (t ≡ true → n < lost) → end ≡ need t lost n → end ≡ lost → t ≡ false
+missed true n end small e h = absurd (lt-irrefl lost (omega (arith, small refl)))
+missed false n end small e h = refl
+
 -- a message laid down with a field of 25 to 57 bytes first ends that field behind its value
 module _ (m : List ℕ) (tag : ℕ) (others : List Want) (t : 0 < tag) where
   first-ends : laid m (want tag 25 57 ∷ others) ≡ true → Passed m 0 tag 25 57
@@ -40,18 +49,13 @@ module _ (m : List ℕ) (tag : ℕ) (others : List Want) (t : 0 < tag) where
 
   -- where that end is found the message is laid down; where it is lost it is not
   pub enclosed : (end : ℕ) → end ≡ need (laid m (want tag 25 57 ∷ others)) lost (3 + size m 0) → (end ≡ lost → ⊥) → Enclosed m (want tag 25 57 ∷ others) end
-  enclosed end e h = go (laid m (want tag 25 57 ∷ others)) refl e
-    where
-      go : (u : Bool) → laid m (want tag 25 57 ∷ others) ≡ u → end ≡ need u lost (3 + size m 0) → Enclosed m (want tag 25 57 ∷ others) end
-      go true l q = let p = first-ends l in record { laidDown = l; place = q; least = p .long; most = p .short; whole = p .whole }
-      go false l q = absurd (h q)
+  enclosed end e h =
+      let f = found (laid m (want tag 25 57 ∷ others)) (3 + size m 0) end e h in
+      let p = first-ends (f .0) in
+      record { laidDown = f .0; place = f .1; least = p .long; most = p .short; whole = p .whole }
 
   pub not-enclosed : (end : ℕ) → end ≡ need (laid m (want tag 25 57 ∷ others)) lost (3 + size m 0) → end ≡ lost → laid m (want tag 25 57 ∷ others) ≡ false
-  not-enclosed end e h = go (laid m (want tag 25 57 ∷ others)) refl e
-    where
-      go : (u : Bool) → laid m (want tag 25 57 ∷ others) ≡ u → end ≡ need u lost (3 + size m 0) → u ≡ false
-      go true l q = absurd (let p = first-ends l in lt-irrefl lost (omega (arith, p .short)))
-      go false l q = refl
+  not-enclosed end e h = missed (laid m (want tag 25 57 ∷ others)) (3 + size m 0) end (λ l. omega (arith, first-ends l .short)) e h
 
 -- a plan of two fields has nothing behind them
 two-fields : (m : List ℕ) (a b : Want) → laid m (a ∷ b ∷ wantNone ∷ wantNone ∷ wantNone ∷ []) ≡ laid m (a ∷ b ∷ [])
@@ -75,18 +79,12 @@ module _ (m : List ℕ) (tag tag′ : ℕ) (others others′ : List Want) (t : 0
   either = laid m (want tag 25 57 ∷ others) || laid m (want tag′ 25 57 ∷ others′)
 
   pub either-found : (end : ℕ) → end ≡ need either lost (3 + size m 0) → (end ≡ lost → ⊥) → (either ≡ true) × (end ≡ 3 + size m 0) × (3 + size m 0 ≤ length m)
-  either-found end e h = go either refl e
-    where
-      go : (u : Bool) → either ≡ u → end ≡ need u lost (3 + size m 0) → (either ≡ true) × (end ≡ 3 + size m 0) × (3 + size m 0 ≤ length m)
-      go true l q = (l, q, either-enclosed _ _ refl refl l .1)
-      go false l q = absurd (h q)
+  either-found end e h =
+      let f = found either (3 + size m 0) end e h in
+      (f .0, f .1, either-enclosed _ _ refl refl (f .0) .1)
 
   pub either-lost : (end : ℕ) → end ≡ need either lost (3 + size m 0) → end ≡ lost → either ≡ false
-  either-lost end e h = go either refl e
-    where
-      go : (u : Bool) → either ≡ u → end ≡ need u lost (3 + size m 0) → either ≡ false
-      go true l q = absurd (let p = either-enclosed _ _ refl refl l in lt-irrefl lost (omega arith))
-      go false l q = l
+  either-lost end e h = missed either (3 + size m 0) end (λ l. omega (arith, either-enclosed _ _ refl refl l .0)) e h
 
 -- a body's five fields as laid down, the places where they end, and its length
 pub record BodyLaid (b : List ℕ) : Type 0 where

@@ -9,6 +9,7 @@ use Rattle.wire.specs.declared.answers.FundingAnswer.{FundingAnswer}
 use Rattle.wire.specs.declared.answers.CertificateAnswer.{CertificateAnswer}
 use Rattle.wire.specs.declared.answers.WriteAnswer.{WriteAnswer}
 
+-- the number of each refusal
 abbrev pub refusalNumber : Refusal → ℕ
 refusalNumber Refusal.Malformed = 1
 refusalNumber Refusal.OutOfRange = 2
@@ -34,9 +35,11 @@ pub record Said : Type 0 where
   pub number : ℕ
   pub values : List ℕ
 
+-- an answer with values
 abbrev pub gives : List ℕ → Said
 gives vs = record { number = 0; values = vs }
 
+-- a refusal, by its number
 abbrev pub refuses : ℕ → Said
 refuses n = record { number = n; values = [] }
 
@@ -44,6 +47,7 @@ refuses n = record { number = n; values = [] }
 abbrev pub paymentValues : Payment → List ℕ
 paymentValues p = p .sender .0 ∷ p .kind ∷ p .recipient ∷ p .amount ∷ p .sequence .0 ∷ []
 
+-- the answer on a body or an order: the payment
 abbrev pub bodySaid : BodyAnswer → Said
 bodySaid (BodyAnswer.Pays p) = gives (paymentValues p)
 bodySaid (BodyAnswer.Refused r) = refuses (refusalNumber r)
@@ -52,16 +56,17 @@ bodySaid (BodyAnswer.Refused r) = refuses (refusalNumber r)
 abbrev pub fundingValues : Funding → List ℕ
 fundingValues o = o .index .0 ∷ o .account .0 ∷ o .amount ∷ []
 
+-- the answer on a funding order: its values
 abbrev pub fundingSaid : FundingAnswer → Said
 fundingSaid (FundingAnswer.Funds o) = gives (fundingValues o)
 fundingSaid (FundingAnswer.Refused r) = refuses (refusalNumber r)
 
--- the number of different machines that voted, then the payment
+-- the answer on a certificate: the number of different machines that voted, then the payment
 abbrev pub certificateSaid : CertificateAnswer → Said
 certificateSaid (CertificateAnswer.Certifies p n) = gives (n ∷ paymentValues p)
 certificateSaid (CertificateAnswer.Refused r) = refuses (refusalNumber r)
 
--- how many bytes were written
+-- the answer of a writer: how many bytes were written
 abbrev pub writeSaid : WriteAnswer → Said
 writeSaid (WriteAnswer.Wrote n) = gives (n ∷ [])
 writeSaid (WriteAnswer.Refused r) = refuses (refusalNumber r)

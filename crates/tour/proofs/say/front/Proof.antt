@@ -1,6 +1,6 @@
 use mathlib.Core.Path.{sym}
-use lib.Seq.{take-all}
 use native.Mathlib.Omega.{arith}
+use lib.Seq.{take-all}
 use borrow.Author.Needs.{needs}
 use Rattle.tour.proofs.say.front.Statement.{statement}
 use Rattle.tour.proofs.say.front.Tie as tie
