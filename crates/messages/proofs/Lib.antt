@@ -1,3 +1,4 @@
 pub mod Onward
 pub mod Passing
 pub mod Written
+pub mod Told

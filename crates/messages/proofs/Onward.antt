@@ -93,7 +93,7 @@ votes-certify p v f t ok machines vs q tallied e =
     ∙ ap (need ok (refuses 4)) (extended-need vs (leb (2 * f + 1) (length machines)) 7 _)))
 
 -- where values are given, a test held, and what follows it gives them
-gives-held : {v : ℕ} {vs : List ℕ} (test : Bool) (n : ℕ) (said : Said) → gives (v ∷ vs) ≡ need test (refuses n) said → (test ≡ true) × (gives (v ∷ vs) ≡ said)
+pub gives-held : {v : ℕ} {vs : List ℕ} (test : Bool) (n : ℕ) (said : Said) → gives (v ∷ vs) ≡ need test (refuses n) said → (test ≡ true) × (gives (v ∷ vs) ≡ said)
 gives-held true n said e = (refl, e)
 gives-held false n said e = absurd (none e)
   where

@@ -1,4 +1,4 @@
--- What answers say: one that is no refusal passed every test before it, and its values tell payments and funding orders apart. Assumes nothing.
+-- What answers say: one that is no refusal passed every test before it. Assumes nothing.
 use Prim.Native.Nat.{ℕ, _<_, _≤_}
 use mathlib.Core.Path.{_≡_, refl, sym, ap, _∙_}
 use mathlib.Core.Bool.{Bool, true, false}
@@ -51,19 +51,3 @@ comes-to-write w out bs e h =
 -- the answer to bytes that were written is how many they are
 pub wrote-size : {w : Written} {out bs : List ℕ} {n : ℕ} → Wrote w out bs → w .answer ≡ gives (n ∷ []) → n ≡ length bs
 wrote-size o h = ap (λ (s : Said). getD (s .values) 0 0) (sym h ∙ ap (λ (x : Written). x .answer) (o .outcome))
-
--- a payment from its values
-abbrev pub paymentOf : List ℕ → Payment
-paymentOf vs = record { sender = record { 0 = getD vs 0 0 }; kind = getD vs 1 0; recipient = getD vs 2 0; amount = getD vs 3 0; sequence = record { 0 = getD vs 4 0 } }
-
--- a funding order from its values
-abbrev pub fundingOf : List ℕ → Funding
-fundingOf vs = record { index = record { 0 = getD vs 0 0 }; account = record { 0 = getD vs 1 0 }; amount = getD vs 2 0 }
-
--- payments with the same values are the same
-pub payment-same : (p q : Payment) → gives (paymentValues p) ≡ gives (paymentValues q) → p ≡ q
-payment-same p q e = ap (λ (s : Said). paymentOf (s .values)) e
-
--- so are funding orders
-pub funding-same : (o p : Funding) → gives (fundingValues o) ≡ gives (fundingValues p) → o ≡ p
-funding-same o p e = ap (λ (s : Said). fundingOf (s .values)) e

@@ -19,7 +19,8 @@ use Rattle.wire.specs.declared.kinds.Payment.{Payment}
 use Rattle.wire.proofs.FieldLaws.{Bytes, ends-laid, both, number-written, bytes-number, cut-join, drop-field, drop-sized, ends-sized, ends-last}
 use Rattle.wire.proofs.Laid.{BodyLaid, body-laid, note-fits}
 use Rattle.messages.proofs.Written.{length-body, PaymentFits, payment-fits}
-use Rattle.roundtrip.specs.Answers.{through, said, told, wrote, Wrote, has-room, comes-to-write, payment-same}
+use Rattle.messages.proofs.Told.{payment-same}
+use Rattle.roundtrip.specs.Answers.{through, said, told, wrote, Wrote, has-room, comes-to-write}
 
 -- the bytes of a body have its fields
 pub body-written : (p : Payment) (note : List ℕ) → length note ≤ 32 → laid (bodyBytes p note) bodyFields ≡ true

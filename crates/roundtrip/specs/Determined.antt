@@ -20,7 +20,7 @@ use Rattle.wire.specs.declared.answers.WriteAnswer.{WriteAnswer}
 use Rattle.wire.specs.declared.answers.BodyRead.{BodyRead}
 use Rattle.wire.specs.declared.answers.OrderRead.{OrderRead}
 use Rattle.messages.proofs.Passing.{linked}
-use Rattle.roundtrip.specs.Answers.{paymentOf, fundingOf}
+use Rattle.messages.proofs.Told.{paymentOf, fundingOf}
 
 -- a function with a way back is injective
 back-injective : {A B : Type 0} (f : A → B) (g : B → A) (law : (a : A) → g (f a) ≡ a) (a b : A) → f a ≡ f b → a ≡ b

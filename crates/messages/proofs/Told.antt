@@ -1,0 +1,69 @@
+-- What the values of a reader's answer tell: the very payment or funding order of a message that has it. Assumes nothing.
+use Prim.Native.Nat.{ℕ}
+use mathlib.Core.Path.{_≡_, ap}
+use mathlib.Core.Bool.{true}
+use mathlib.Core.List.{List, _∷_}
+use lib.ListN.{length, getD, drop}
+use lib.Dec.{eqb}
+use Rattle.wire.specs.Fields.{laid}
+use Rattle.wire.specs.Messages.{bodyFields, payment, isPayment, certificateFields, inside, fundingFields, funding, isFunding}
+use Rattle.wire.specs.Votes.{Committee, known, rising, good, votes, signersIn}
+use Rattle.wire.specs.Refusals.{Said, gives, paymentValues, fundingValues}
+use Rattle.wire.specs.Readers.{readPayment, isBody, readOrderPayment, isOrder, readFunding, judgedBy}
+use Rattle.wire.specs.declared.kinds.Payment.{Payment}
+use Rattle.wire.specs.declared.kinds.Funding.{Funding}
+use Rattle.messages.proofs.Onward.{gives-held, payment-read, order-read}
+
+-- a payment from its values
+abbrev pub paymentOf : List ℕ → Payment
+paymentOf vs = record { sender = record { 0 = getD vs 0 0 }; kind = getD vs 1 0; recipient = getD vs 2 0; amount = getD vs 3 0; sequence = record { 0 = getD vs 4 0 } }
+
+-- a funding order from its values
+abbrev pub fundingOf : List ℕ → Funding
+fundingOf vs = record { index = record { 0 = getD vs 0 0 }; account = record { 0 = getD vs 1 0 }; amount = getD vs 2 0 }
+
+-- payments with the same values are the same
+pub payment-same : (p q : Payment) → gives (paymentValues p) ≡ gives (paymentValues q) → p ≡ q
+payment-same p q e = ap (λ (s : Said). paymentOf (s .values)) e
+
+-- so are funding orders
+pub funding-same : (o p : Funding) → gives (fundingValues o) ≡ gives (fundingValues p) → o ≡ p
+funding-same o p e = ap (λ (s : Said). fundingOf (s .values)) e
+
+-- a payment that was read is that of the body
+pub payment-told : (p : Payment) (b : List ℕ) → gives (paymentValues p) ≡ readPayment b → (isBody b ≡ true) × (p ≡ payment b)
+payment-told p b e = let r = payment-read b e in (simp (r .0, r .1), ap paymentOf (r .2))
+
+-- and that of the body inside an order
+pub order-told : (p : Payment) (m : List ℕ) → gives (paymentValues p) ≡ readOrderPayment m → (isOrder m ≡ true) × (p ≡ payment (inside m))
+order-told p m e =
+    let r = order-read m e in
+    let q = payment-told p (inside m) (r .1) in
+    (simp (r .0, q .0), q .1)
+
+-- so of a funding order
+pub funding-told : (o : Funding) (m : List ℕ) → gives (fundingValues o) ≡ readFunding m → (isFunding (funding m) ≡ true) × (o ≡ funding m)
+unfolding readFunding
+funding-told o m e =
+    let p = gives-held (laid m fundingFields) 1 _ e in
+    let q = gives-held (isFunding (funding m)) 2 _ (p .1) in
+    (q .0, funding-same o (funding m) (q .1))
+
+-- what a judged certificate tells: its votes and its payment
+pub record Judged (m : List ℕ) (votes : ℕ) (p : Payment) : Type 0 where
+  pub inRange : isPayment (payment (inside m)) ≡ true
+  pub count : votes ≡ length (signersIn m)
+  pub said : p ≡ payment (inside m)
+
+pub judged-told : (c : Committee) (m verdicts : List ℕ) (n : ℕ) (p : Payment) → gives (n ∷ paymentValues p) ≡ judgedBy c m verdicts → Judged m n p
+unfolding judgedBy
+judged-told c m verdicts n p e =
+    let t₁ = gives-held (laid m certificateFields) 1 _ e in
+    let t₂ = gives-held (laid (inside m) bodyFields) 1 _ (t₁ .1) in
+    let t₃ = gives-held (isPayment (payment (inside m))) 2 _ (t₂ .1) in
+    let t₄ = gives-held (eqb (length verdicts) (votes m)) 3 _ (t₃ .1) in
+    let t₅ = gives-held (known (c .last) (signersIn m)) 5 _ (t₄ .1) in
+    let t₆ = gives-held (rising (signersIn m)) 6 _ (t₅ .1) in
+    let t₇ = gives-held (good verdicts) 4 _ (t₆ .1) in
+    let t₈ = gives-held (c .quorum (signersIn m)) 7 _ (t₇ .1) in
+    record { inRange = t₃ .0; count = ap (λ (s : Said). getD (s .values) 0 0) (t₈ .1); said = ap (λ (s : Said). paymentOf (drop 1 (s .values))) (t₈ .1) }

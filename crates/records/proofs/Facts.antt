@@ -1,0 +1,48 @@
+-- What the tests of a record and a state say of their numbers. Assumes nothing.
+use Prim.Native.Nat.{ℕ, suc, _≤_}
+use mathlib.Core.Path.{_≡_, sym, ap, _∙_}
+use mathlib.Core.Bool.{Bool, true}
+use mathlib.Core.List.{List, _++_}
+use borrow.Author.Tests.{leb-true}
+use lib.Dec.{leb}
+use lib.ListN.{length, replicate, length-append, length-replicate}
+use Rattle.octets.specs.Octets.{one, bytes, put}
+use Rattle.octets.proofs.Laws.{length-bytes, put-all}
+use Rattle.wire.proofs.FieldLaws.{both}
+use Rattle.records.specs.Balances.{highest}
+use Rattle.records.specs.Records.{headBytes, inRange, isRecord, recordAt, Fits}
+
+-- numbers in range fit their bytes
+pub record InRange (used waiting next balance : ℕ) : Type 0 where
+  pub used-most : used ≤ 1
+  pub waiting-most : waiting ≤ 57
+  pub next-most : next ≤ 4_096
+  pub balance-most : balance ≤ highest
+
+pub in-range : (used waiting next balance : ℕ) → inRange used waiting next balance ≡ true → InRange used waiting next balance
+unfolding inRange
+in-range used waiting next balance e =
+    let a = both (leb used 1) _ e in
+    let b = both (leb waiting 57) _ (a .1) in
+    let c = both (leb next 4_096) _ (b .1) in
+    record { used-most = leb-true _ _ (a .0); waiting-most = leb-true _ _ (b .0); next-most = leb-true _ _ (c .0); balance-most = leb-true _ _ (c .1) }
+
+-- a well-formed record can be written again
+-- twelve bytes stand before the pending body
+pub length-head : (used : Bool) (waiting next balance : ℕ) → length (headBytes used waiting next balance) ≡ 12
+unfolding headBytes
+length-head used waiting next balance = simp (length-append, length-bytes)
+
+pub formed-fits : (account : ℕ) (s : List ℕ) (at : ℕ) → isRecord account s at ≡ true → Fits (recordAt s at)
+unfolding isRecord recordAt
+formed-fits account s at e =
+    let n = in-range _ _ _ _ (both _ _ e .0) in
+    record { waiting = n .waiting-most; next = n .next-most; balance = n .balance-most }
+
+-- zeros over the whole state, then f and the own number: a fresh state
+pub fresh-put : {t u v : List ℕ} (s : List ℕ) (f own n : ℕ) → length s ≡ suc (suc n) → t ≡ put s 0 (replicate (suc (suc n)) 0) → u ≡ put t 0 (bytes one f) → v ≡ put u 1 (bytes one own)
+    → v ≡ bytes one f ++ (bytes one own ++ replicate n 0)
+unfolding put bytes
+fresh-put s f own n h a b c =
+    let z : put s 0 (replicate (suc (suc n)) 0) ≡ replicate (suc (suc n)) 0 = put-all s (replicate (suc (suc n)) 0) (length-replicate (suc (suc n)) 0 ∙ sym h) in
+    c ∙ ap (λ (l : List ℕ). put l 1 (bytes one own)) (b ∙ ap (λ (l : List ℕ). put l 0 (bytes one f)) (a ∙ z))

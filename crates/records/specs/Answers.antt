@@ -1,0 +1,72 @@
+-- 01, Refusal numbers and Rules: the number and values of each case of each answer of a machine.
+use Prim.Native.Nat.{ℕ}
+use mathlib.Core.List.{List, [], _∷_}
+use lib.IntN.{ℤ, pos}
+use Rattle.wire.specs.Refusals.{Said, gives, refuses, refusalNumber}
+use Rattle.records.specs.Records.{bit}
+use Rattle.records.specs.declared.answers.FreshAnswer.{FreshAnswer}
+use Rattle.records.specs.declared.answers.OrderAnswer.{OrderAnswer}
+use Rattle.records.specs.declared.answers.ConfirmAnswer.{ConfirmAnswer}
+use Rattle.records.specs.declared.answers.CreditAnswer.{CreditAnswer}
+use Rattle.records.specs.declared.answers.AccountAnswer.{AccountAnswer}
+
+-- a fresh state was made, or a funding order was credited: nothing more to say
+abbrev pub done : Said
+done = gives []
+
+-- vote, new; vote, repeated
+abbrev pub voteNew : Said
+voteNew = gives (0 ∷ [])
+
+abbrev pub voteRepeated : Said
+voteRepeated = gives (1 ∷ [])
+
+-- confirmed, or already; both with the number of votes counted
+abbrev pub confirmed : ℕ → Said
+confirmed votes = gives (0 ∷ votes ∷ [])
+
+abbrev pub already : ℕ → Said
+already votes = gives (1 ∷ votes ∷ [])
+
+abbrev pub freshSaid : FreshAnswer → Said
+freshSaid FreshAnswer.Made = done
+freshSaid (FreshAnswer.Refused r) = refuses (refusalNumber r)
+
+abbrev pub orderSaid : OrderAnswer → Said
+orderSaid OrderAnswer.VoteNew = voteNew
+orderSaid OrderAnswer.VoteRepeated = voteRepeated
+orderSaid (OrderAnswer.Refused r) = refuses (refusalNumber r)
+
+abbrev pub confirmSaid : ConfirmAnswer → Said
+confirmSaid (ConfirmAnswer.Confirmed votes) = confirmed votes
+confirmSaid (ConfirmAnswer.Already votes) = already votes
+confirmSaid (ConfirmAnswer.Refused r) = refuses (refusalNumber r)
+
+abbrev pub creditSaid : CreditAnswer → Said
+creditSaid CreditAnswer.Credited = done
+creditSaid (CreditAnswer.Refused r) = refuses (refusalNumber r)
+
+-- what reading an account gives: in use, next sequence, free to spend; beside it the balance, which has a sign
+pub record AccountShown : Type 0 where
+  pub answer : Said
+  pub balance : ℤ
+
+-- a refusal shows no balance
+abbrev pub unshown : ℕ → AccountShown
+unshown n = record { answer = refuses n; balance = pos 0 }
+
+abbrev pub accountShown : AccountAnswer → AccountShown
+accountShown (AccountAnswer.Shows r) = record { answer = gives (bit (r .used) ∷ r .next .0 ∷ r .free ∷ []); balance = r .balance }
+accountShown (AccountAnswer.Refused r) = unshown (refusalNumber r)
+
+-- an answer, and the state afterwards
+pub record Outcome : Type 0 where
+  pub answer : Said
+  pub state : List ℕ
+
+abbrev pub outcome : Said → List ℕ → Outcome
+outcome said s = record { answer = said; state = s }
+
+-- a refusal changes nothing
+abbrev pub refused : ℕ → List ℕ → Outcome
+refused n s = outcome (refuses n) s

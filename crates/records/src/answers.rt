@@ -1,0 +1,39 @@
+// What the calls on a machine answer.
+use wire::answers::Refusal;
+use wire::kinds::Sequence;
+
+pub enum FreshAnswer {
+    Made,
+    Refused(Refusal),
+}
+
+pub enum OrderAnswer {
+    VoteNew,
+    VoteRepeated,
+    Refused(Refusal),
+}
+
+// With the number of votes counted.
+pub enum ConfirmAnswer {
+    Confirmed(u64),
+    Already(u64),
+    Refused(Refusal),
+}
+
+pub enum CreditAnswer {
+    Credited,
+    Refused(Refusal),
+}
+
+// What one reads of an account. Free to spend is the balance, or 0 if it is negative.
+pub struct Reading {
+    pub used: bool,
+    pub next: Sequence,
+    pub balance: i64,
+    pub free: u64,
+}
+
+pub enum AccountAnswer {
+    Shows(Reading),
+    Refused(Refusal),
+}

@@ -1,0 +1,40 @@
+// Balances are handled lifted by 10^15: from 0, the lowest, to 2 * 10^15. They stand in eight bytes as two's complement.
+ghost use mathlib.Core.Path.{_≡_};
+ghost use Prim.Native.Nat.{_≤_, _<_, _^_};
+ghost use Rattle.records.specs.Balances as balances;
+
+pub const NOUGHT: u64 = 1_000_000_000_000_000;
+
+pub const HIGHEST: u64 = 2_000_000_000_000_000;
+
+// From the number that the eight bytes make.
+pub fn lift(w: u64) -> u64
+    ensures { λ r. ⌜ r ≡ balances.lift w ⌝ }
+{
+    std::num::wrapping_add_u64(w, NOUGHT)
+}
+
+// And back.
+pub fn lower(lifted: u64) -> u64
+    ensures { λ r. ⌜ r ≡ balances.lower lifted ⌝ }
+{
+    std::num::wrapping_sub_u64(lifted, NOUGHT)
+}
+
+// With its sign.
+pub fn signed(lifted: u64) -> i64
+    requires { ⌜ lifted ≤ balances.highest ⌝ }
+    ensures { λ r. ⌜ r ≡ balances.signed lifted ⌝ }
+{
+    (lifted as i64) - 1_000_000_000_000_000
+}
+
+// Free to spend.
+pub fn free(lifted: u64) -> u64
+    ensures { λ r. ⌜ r ≡ balances.free lifted ⌝ }
+{
+    if lifted < NOUGHT {
+        return 0;
+    }
+    lifted - NOUGHT
+}
