@@ -1,16 +1,18 @@
 -- What the tests of a record and a state say of their numbers. Assumes nothing.
-use Prim.Native.Nat.{ℕ, suc, _≤_}
+use Prim.Native.Nat.{ℕ, suc, _+_, _≤_}
 use mathlib.Core.Path.{_≡_, sym, ap, _∙_}
 use mathlib.Core.Bool.{Bool, true}
 use mathlib.Core.List.{List, _++_}
+use native.Mathlib.Omega.{arith}
 use borrow.Author.Tests.{leb-true}
 use lib.Dec.{leb}
 use lib.ListN.{length, replicate, length-append, length-replicate}
-use Rattle.octets.specs.Octets.{one, bytes, put}
+use Rattle.octets.specs.Octets.{one, number, bytes, put}
 use Rattle.octets.proofs.Laws.{length-bytes, put-all}
 use Rattle.wire.proofs.FieldLaws.{both}
 use Rattle.records.specs.Balances.{highest}
-use Rattle.records.specs.Records.{headBytes, inRange, isRecord, recordAt, Fits}
+use Rattle.records.specs.Records.{headBytes, inRange, isRecord, recordAt, Fits, holding, paid, credited}
+use Rattle.records.specs.declared.record.Record.{Record}
 
 -- numbers in range fit their bytes
 pub record InRange (used waiting next balance : ℕ) : Type 0 where
@@ -46,3 +48,21 @@ unfolding put bytes
 fresh-put s f own n h a b c =
     let z : put s 0 (replicate (suc (suc n)) 0) ≡ replicate (suc (suc n)) 0 = put-all s (replicate (suc (suc n)) 0) (length-replicate (suc (suc n)) 0 ∙ sym h) in
     c ∙ ap (λ (l : List ℕ). put l 1 (bytes one own)) (b ∙ ap (λ (l : List ℕ). put l 0 (bytes one f)) (a ∙ z))
+
+-- a pending body of a well-formed record has room in it
+pub pending-fits : (account : ℕ) (s : List ℕ) (at : ℕ) → isRecord account s at ≡ true → number one s (at + 1) ≤ 57
+unfolding isRecord
+pending-fits account s at e = in-range _ _ _ _ (both _ _ e .0) .waiting-most
+
+-- a record that fits its bytes fits them after a change
+pub fits-holding : (r : Record) (body : List ℕ) → Fits r → length body ≤ 57 → Fits (holding r body)
+unfolding holding
+fits-holding r body f h = record { waiting = h; next = f .next; balance = f .balance }
+
+pub fits-paid : (r : Record) (n : ℕ) → Fits r → r .next .0 ≤ 4_095 → Fits (paid r n)
+unfolding paid
+fits-paid r n f h = record { waiting = omega arith; next = omega arith; balance = omega (arith, f .balance) }
+
+pub fits-credited : (r : Record) (n : ℕ) → Fits r → r .balance + n ≤ highest → Fits (credited r n)
+unfolding credited
+fits-credited r n f h = record { waiting = f .waiting; next = f .next; balance = h }

@@ -1,12 +1,13 @@
 // An account's record, read out, changed and written back as a value.
 ghost use mathlib.Core.Path.{_≡_};
+ghost use mathlib.Core.Bool.{true};
 ghost use Prim.Native.Nat.{_+_, _≤_, _<_};
 ghost use lib.ListN.{length};
 ghost use Rattle.octets.specs.Octets as octets;
 ghost use Rattle.wire.specs.Readers.{held};
 ghost use Rattle.records.specs.Balances.{highest};
 ghost use Rattle.records.specs.Records as records;
-ghost use Rattle.records.specs.States.{base, place, recordOf, isFormed, withRecord};
+ghost use Rattle.records.specs.States.{base, place, recordOf, isFormed, pendingOf, withRecord};
 use crate::balance;
 use messages::body;
 use wire::answers::BodyAnswer;
@@ -161,6 +162,16 @@ impl Record {
             balance,
             pending,
         }
+    }
+
+    // The pending body of an account, uncopied; empty if there is none.
+    pub fn pending(s: &[u8], account: Account) -> &[u8]
+        requires { ⌜ (length (now s) ≡ 4616) × (account .0 ≤ 63) × (isFormed base (now s) (account .0) ≡ true) ⌝ }
+        ensures { λ r. ⌜ now r ≡ pendingOf base (now (s .entry)) (account .0) ⌝ }
+    {
+        let at = Record::place(account);
+        let n = octets::get8(s, at + 1) as usize;
+        octets::cut(s, at + 12, n)
     }
 
     pub fn write(self, s: &mut [u8], account: Account)

@@ -23,23 +23,23 @@ use Rattle.messages.proofs.Passing.{linked}
 use Rattle.messages.proofs.Told.{paymentOf, fundingOf}
 
 -- a function with a way back is injective
-back-injective : {A B : Type 0} (f : A → B) (g : B → A) (law : (a : A) → g (f a) ≡ a) (a b : A) → f a ≡ f b → a ≡ b
+pub back-injective : {A B : Type 0} (f : A → B) (g : B → A) (law : (a : A) → g (f a) ≡ a) (a b : A) → f a ≡ f b → a ≡ b
 back-injective f g law a b e = sym (law a) ∙ ap g e ∙ law b
 
 -- the refusals in the order of their numbers from 1
-abbrev refusals : List Refusal
+abbrev pub refusals : List Refusal
 refusals =
     Refusal.Malformed ∷ Refusal.OutOfRange ∷ Refusal.VerdictCount ∷ Refusal.BadVerdict ∷ Refusal.UnknownMachine ∷ Refusal.VotesNotRising
     ∷ Refusal.TooFewVotes ∷ Refusal.SenderNotInUse ∷ Refusal.AnotherPending ∷ Refusal.NotNextSequence ∷ Refusal.BalanceTooLow ∷ Refusal.NotNextIndex
     ∷ Refusal.NotToLedger ∷ Refusal.AlreadyRedeemed ∷ Refusal.PotTooLow ∷ Refusal.BadState ∷ Refusal.IndexExhausted ∷ Refusal.BufferTooSmall ∷ []
 
 -- an answer with its number and what it is at number 0
-abbrev answered : {A : Type 0} (refused : Refusal → A) → ℕ → A → A
+abbrev pub answered : {A : Type 0} (refused : Refusal → A) → ℕ → A → A
 answered refused zero a = a
 answered refused (suc n) a = refused (getD refusals n Refusal.Malformed)
 
 -- a refusal's number leads back to the refusal
-answered-refusal : {A : Type 0} (refused : Refusal → A) (a : A) (r : Refusal) → answered refused (refusalNumber r) a ≡ refused r
+pub answered-refusal : {A : Type 0} (refused : Refusal → A) (a : A) (r : Refusal) → answered refused (refusalNumber r) a ≡ refused r
 answered-refusal refused a Refusal.Malformed = refl
 answered-refusal refused a Refusal.OutOfRange = refl
 answered-refusal refused a Refusal.VerdictCount = refl

@@ -1,0 +1,211 @@
+-- What a call on a machine can come to: the bytes as they were, or new ones, with what the tests on the way said. Assumes nothing.
+use Prim.Native.Nat.{ℕ, zero, suc, _+_, _*_, _≤_, _<_}
+use mathlib.Core.Path.{_≡_, refl, sym, _∙_}
+use mathlib.Core.Bool.{Bool, true, false, _||_, cond, false≢true, and-eq-true-iff}
+use mathlib.Core.List.{List}
+use native.Mathlib.Omega.{arith}
+use lib.ListN.{length}
+use lib.Dec.{leb, ltb, eqb, lit<}
+use borrow.Author.Tests.{leb-true, ltb-false, eqb-true, eqb-false, eq-eqb}
+use Rattle.octets.specs.Octets.{same}
+use Rattle.wire.specs.Numbers.{isFaults, isRecipient}
+use Rattle.wire.specs.Fields.{need, laid}
+use Rattle.wire.specs.Messages.{bodyFields, orderFields, certificateFields, fundingFields, payment, inside, isPayment, funding, isFunding}
+use Rattle.wire.specs.Votes.{Committee, signersIn, good}
+use Rattle.wire.specs.Refusals.{Said, refuses}
+use Rattle.wire.specs.Readers.{isBody, readPayment, readOrderPayment, readFunding, judgedBy}
+use Rattle.wire.specs.declared.kinds.Payment.{Payment}
+use Rattle.wire.specs.declared.kinds.Funding.{Funding}
+use Rattle.wire.proofs.FieldLaws.{both}
+use Rattle.roundtrip.specs.Answers.{through, said}
+use Rattle.records.specs.declared.record.Record.{Record}
+use Rattle.records.specs.Balances.{nought, highest}
+use Rattle.records.specs.Records.{holding, paid, credited}
+use Rattle.records.specs.States.{Rules, stateLength, isState, recordOf, isFormed, pendingOf, withRecord, lastIndex, withIndex, freshState}
+use Rattle.records.specs.Answers.{Outcome, outcome, refused, done, voteNew, voteRepeated, confirmed, already}
+use Rattle.records.specs.Calls.{fresh, order, vote, voteOn, toItself, pay, settleOn, settle, certificate, creditOn, credit, fundingOrder}
+
+-- what the values of a payment in range keep to
+pub record InRange (p : Payment) : Type 0 where
+  pub sender : p .sender .0 ≤ 63
+  pub kind : p .kind ≤ 1
+  pub recipient : p .kind ≡ 0 → p .recipient ≤ 63
+  pub sequence : p .sequence .0 ≤ 4_095
+
+recipient-range : (kind n : ℕ) → isRecipient kind n ≡ true → (kind ≤ 1) × (kind ≡ 0 → n ≤ 63)
+recipient-range zero n h = (omega arith, λ _. leb-true _ _ h)
+recipient-range (suc zero) n h = (omega arith, λ e. omega arith)
+recipient-range (suc (suc kind)) n h = absurd (false≢true h)
+
+payment-range : (p : Payment) → isPayment p ≡ true → InRange p
+unfolding isPayment
+payment-range p h =
+    let tests = simp and-eq-true-iff at h in
+    let r = recipient-range (p .kind) (p .recipient) (tests .1 .0) in
+    record { sender = leb-true _ _ (tests .0); kind = r .0; recipient = r .1; sequence = leb-true _ _ (tests .1 .1 .1) }
+
+-- the account of a funding order in range
+account-range : (o : Funding) → isFunding o ≡ true → o .account .0 ≤ 63
+unfolding isFunding
+account-range o h = let tests = simp and-eq-true-iff at h in leb-true _ _ (tests .1 .0)
+
+-- what is read without a refusal holds a body
+order-body : (m : List ℕ) → said (readOrderPayment m) ≡ 0 → isBody (inside m) ≡ true
+unfolding readPayment
+order-body m e =
+    let a = through said (laid m orderFields) (refuses 1) _ (lit< tt) e in
+    let b = through said (laid (inside m) bodyFields) (refuses 1) _ (lit< tt) (a .1) in
+    let c = through said (isPayment (payment (inside m))) (refuses 2) _ (lit< tt) (b .1) in
+    rw (b .0, c .0)
+
+certificate-body : (c : Committee) (m verdicts : List ℕ) → said (judgedBy c m verdicts) ≡ 0 → isBody (inside m) ≡ true
+unfolding judgedBy
+certificate-body c m verdicts e =
+    let a = through said (laid m certificateFields) (refuses 1) _ (lit< tt) e in
+    let b = through said (laid (inside m) bodyFields) (refuses 1) _ (lit< tt) (a .1) in
+    let c = through said (isPayment (payment (inside m))) (refuses 2) _ (lit< tt) (b .1) in
+    rw (b .0, c .0)
+
+funding-order : (m : List ℕ) → said (readFunding m) ≡ 0 → isFunding (funding m) ≡ true
+unfolding readFunding
+funding-order m e =
+    let a = through said (laid m fundingFields) (refuses 1) _ (lit< tt) e in
+    through said (isFunding (funding m)) (refuses 2) _ (lit< tt) (a .1) .0
+
+-- the values in a body are in range
+body-range : (body : List ℕ) → isBody body ≡ true → InRange (payment body)
+body-range body h = payment-range (payment body) (both (laid body bodyFields) (isPayment (payment body)) h .1)
+
+-- the bytes after a new vote, after a payment that takes n off the sender, after one to another account, and after a funding order
+abbrev pub afterVote : Rules → List ℕ → List ℕ → List ℕ
+afterVote rules s body = let account = payment body .sender .0 in withRecord rules s account (holding (recordOf rules s account) body)
+
+abbrev pub afterPaid : Rules → List ℕ → Payment → ℕ → List ℕ
+afterPaid rules s p n = let account = p .sender .0 in withRecord rules s account (paid (recordOf rules s account) n)
+
+abbrev pub afterMoved : Rules → List ℕ → Payment → List ℕ
+afterMoved rules s p = let account = p .recipient in withRecord rules (afterPaid rules s p (p .amount)) account (credited (recordOf rules s account) (p .amount))
+
+abbrev pub afterFunding : Rules → List ℕ → Funding → List ℕ
+afterFunding rules s o = let account = o .account .0 in withRecord rules (withIndex s (o .index .0)) account (credited (recordOf rules s account) (o .amount))
+
+-- a new vote: its body, and the sender's record
+pub record Voted (body : List ℕ) (r : Record) : Type 0 where
+  pub formed : isBody body ≡ true
+  pub range : InRange (payment body)
+  pub used : r .used ≡ true
+  pub waiting : r .waiting ≡ 0
+  pub next : payment body .sequence .0 ≡ r .next .0
+  pub covered : nought + payment body .amount ≤ r .balance
+
+-- a certificate of the next sequence: its payment, and the sender's record
+pub record Settled (p : Payment) (r : Record) : Type 0 where
+  pub range : InRange p
+  pub next : p .sequence .0 ≡ r .next .0
+
+-- one to another account: the sender's record, and the recipient's
+pub record Moved (p : Payment) (from to : Record) : Type 0 where
+  pub kind : p .kind ≡ 0
+  pub other : p .recipient ≡ p .sender .0 → ⊥
+  pub enough : p .amount ≤ from .balance
+  pub room : to .balance + p .amount ≤ highest
+
+-- a funding order of the next index: the last one, and the account's record
+pub record Funded (last : ℕ) (o : Funding) (r : Record) : Type 0 where
+  pub account : o .account .0 ≤ 63
+  pub index : o .index .0 ≡ last + 1
+  pub room : r .balance + o .amount ≤ highest
+
+-- a payment to an account that is not the sender
+not-itself : (p : Payment) → toItself p ≡ false → p .kind ≡ 0 → p .recipient ≡ p .sender .0 → ⊥
+not-itself p e k r = false≢true (sym e ∙ rw (eq-eqb _ _ k, eq-eqb _ _ r))
+
+module _ (P : Outcome → Type 0) where
+  -- both ways of a test
+  need-case : (t : Bool) (failed rest : Outcome) → P failed → (t ≡ true → P rest) → P (need t failed rest)
+  need-case true failed rest f r = r refl
+  need-case false failed rest f r = f
+
+  cond-case : (t : Bool) (a b : Outcome) → (t ≡ true → P a) → (t ≡ false → P b) → P (cond t a b)
+  cond-case true a b f g = f refl
+  cond-case false a b f g = g refl
+
+  -- what holds of the refusals and of a fresh state holds of what making one comes to
+  pub fresh-comes : (rules : Rules) (s : List ℕ) (f own : ℕ) → ((n : ℕ) → 0 < n → P (refused n s))
+      → (f ≤ 5 → own ≤ 3 * f → P (outcome done (freshState rules f own))) → P (fresh rules s f own)
+  unfolding fresh
+  fresh-comes rules s f own refusal made =
+      need-case (eqb (length s) (stateLength rules)) _ _ (refusal 16 (lit< tt)) (λ _.
+      need-case (isFaults f) _ _ (refusal 2 (lit< tt)) (λ a.
+      need-case (leb own (3 * f)) _ _ (refusal 2 (lit< tt)) (λ b.
+      made (leb-true _ _ a) (leb-true _ _ b))))
+
+-- what holds of every answer that leaves the bytes, and of those that change them, holds of what a call comes to
+module _ (P : Outcome → Type 0) (rules : Rules) (s : List ℕ) (left : (answer : Said) → P (outcome answer s)) where
+  test : (t : Bool) (n : ℕ) (rest : Outcome) → (t ≡ true → P rest) → P (need t (refused n s) rest)
+  test t n rest = need-case P t (refused n s) rest (left (refuses n))
+
+  pub order-comes : (m verdicts : List ℕ)
+      → (Voted (inside m) (recordOf rules s (payment (inside m) .sender .0)) → P (outcome voteNew (afterVote rules s (inside m))))
+      → P (order rules s m verdicts)
+  unfolding order vote voteOn
+  order-comes m verdicts new =
+      let body = inside m in
+      let p = payment body in
+      let r = recordOf rules s (p .sender .0) in
+      test (isState rules s) 16 _ (λ _.
+      test (eqb (readOrderPayment m .number) 0) _ _ (λ read.
+      test (eqb (length verdicts) 1) 3 _ (λ _.
+      test (good verdicts) 4 _ (λ _.
+      test (isFormed rules s (p .sender .0)) 16 _ (λ _.
+      test (r .used) 8 _ (λ used.
+      cond-case P (ltb 0 (r .waiting)) _ _ (λ _. test (same (pendingOf rules s (p .sender .0)) body) 9 _ (λ _. left voteRepeated)) (λ none.
+      test (eqb (rules .further body) 0) _ _ (λ _.
+      test (eqb (p .sequence .0) (r .next .0)) 10 _ (λ next.
+      test (leb (nought + p .amount) (r .balance)) 11 _ (λ covered.
+      let b = order-body m (eqb-true _ _ read) in
+      let w : r .waiting ≤ 0 = ltb-false 0 (r .waiting) none in
+      new (record { formed = b; range = body-range body b; used = used; waiting = omega arith; next = eqb-true _ _ next; covered = leb-true _ _ covered })))))))))))
+
+  pub certificate-comes : (m verdicts : List ℕ)
+      → (let p = payment (inside m) in let from = recordOf rules s (p .sender .0) in
+      (Settled p from → toItself p ≡ true → P (outcome (confirmed (length (signersIn m))) (afterPaid rules s p 0)))
+      → (Settled p from → p .kind ≡ 1 → p .amount ≤ from .balance → P (outcome (confirmed (length (signersIn m))) (afterPaid rules s p (p .amount))))
+      → (Settled p from → Moved p from (recordOf rules s (p .recipient)) → P (outcome (confirmed (length (signersIn m))) (afterMoved rules s p)))
+      → P (certificate rules s m verdicts))
+  unfolding certificate settle settleOn pay
+  certificate-comes m verdicts itself ledger moved =
+      let p = payment (inside m) in
+      let from = recordOf rules s (p .sender .0) in
+      let to = recordOf rules s (p .recipient) in
+      test (isState rules s) 16 _ (λ _.
+      test (eqb (judgedBy (rules .committee s) m verdicts .number) 0) _ _ (λ judged.
+      test (isFormed rules s (p .sender .0)) 16 _ (λ _.
+      test (eqb (p .kind) 1 || isFormed rules s (p .recipient)) 16 _ (λ _.
+      cond-case P (ltb (p .sequence .0) (from .next .0)) _ _ (λ _. left (already (length (signersIn m)))) (λ _.
+      test (eqb (p .sequence .0) (from .next .0)) 10 _ (λ next.
+      let range = body-range (inside m) (certificate-body (rules .committee s) m verdicts (eqb-true _ _ judged)) in
+      let settled : Settled p from = record { range = range; next = eqb-true _ _ next } in
+      cond-case P (toItself p) _ _ (λ same. itself settled same) (λ other.
+      test (leb (p .amount) (from .balance)) 16 _ (λ enough.
+      cond-case P (eqb (p .kind) 1) _ _ (λ kind. ledger settled (eqb-true _ _ kind) (leb-true _ _ enough)) (λ account.
+      test (leb (to .balance + p .amount) highest) 16 _ (λ room.
+      let not-ledger = eqb-false (p .kind) 1 account in
+      let kind : p .kind ≡ 0 = omega (arith, range .kind) in
+      moved settled (record { kind = kind; other = not-itself p other kind; enough = leb-true _ _ enough; room = leb-true _ _ room })))))))))))
+
+  pub funding-comes : (m verdicts : List ℕ)
+      → (Funded (lastIndex s) (funding m) (recordOf rules s (funding m .account .0)) → P (outcome done (afterFunding rules s (funding m))))
+      → P (fundingOrder rules s m verdicts)
+  unfolding fundingOrder credit creditOn
+  funding-comes m verdicts funded =
+      let o = funding m in
+      let r = recordOf rules s (o .account .0) in
+      test (isState rules s) 16 _ (λ _.
+      test (eqb (readFunding m .number) 0) _ _ (λ read.
+      test (eqb (length verdicts) 1) 3 _ (λ _.
+      test (good verdicts) 4 _ (λ _.
+      test (isFormed rules s (o .account .0)) 16 _ (λ _.
+      test (eqb (o .index .0) (lastIndex s + 1)) 12 _ (λ index.
+      test (leb (r .balance + o .amount) highest) 16 _ (λ room.
+      funded (record { account = account-range o (funding-order m (eqb-true _ _ read)); index = eqb-true _ _ index; room = leb-true _ _ room }))))))))

@@ -1,0 +1,142 @@
+// The rules on records: what an order, a certificate and a funding order do, once message and verdicts are good.
+ghost use mathlib.Core.Path.{_≡_};
+ghost use mathlib.Core.Bool.{true, _||_};
+ghost use Prim.Native.Nat.{_≤_, _+_};
+ghost use lib.Dec.{eqb};
+ghost use lib.ListN.{length};
+ghost use Rattle.wire.specs.Messages.{isPayment, isFunding};
+ghost use Rattle.records.specs.Records.{Fits};
+ghost use Rattle.records.specs.States.{base, recordOf, isFormed};
+ghost use Rattle.records.specs.Answers.{outcome, orderSaid, confirmSaid, creditSaid};
+ghost use Rattle.records.specs.Calls as calls;
+use records::answers::ConfirmAnswer;
+use records::answers::CreditAnswer;
+use records::answers::OrderAnswer;
+use records::balance;
+use records::record::Record;
+use records::state;
+use wire::answers::Refusal;
+use wire::kinds::Account;
+use wire::kinds::Funding;
+use wire::kinds::Payment;
+
+// An order with a good verdict: a vote for its body, or a refusal.
+pub fn vote(s: &mut [u8], payment: Payment, body: &[u8]) -> OrderAnswer
+    requires { ⌜ (length (now s) ≡ 4616) × (isPayment payment ≡ true) × (length (now body) ≤ 57) ⌝ }
+    ensures { λ r. ⌜ outcome (orderSaid r) (now (s .exit)) ≡ calls.vote base (now (s .entry)) payment (now (body .entry)) ⌝ }
+{
+    let sender = payment.sender;
+    if !Record::formed(s, sender) {
+        return OrderAnswer::Refused(Refusal::BadState);
+    }
+    let record = Record::read(s, sender);
+    if !record.used {
+        return OrderAnswer::Refused(Refusal::SenderNotInUse);
+    }
+    if 0 < record.waiting {
+        if !octets::same(Record::pending(s, sender), body) {
+            return OrderAnswer::Refused(Refusal::AnotherPending);
+        }
+        return OrderAnswer::VoteRepeated;
+    }
+    if payment.sequence.0 != record.next.0 {
+        return OrderAnswer::Refused(Refusal::NotNextSequence);
+    }
+    if record.balance < balance::NOUGHT + payment.amount {
+        return OrderAnswer::Refused(Refusal::BalanceTooLow);
+    }
+    record.holding(body).write(s, sender);
+    OrderAnswer::VoteNew
+}
+
+// Whether a payment goes from an account to itself.
+fn to_itself(payment: Payment) -> bool
+    ensures { λ r. ⌜ r ≡ calls.toItself payment ⌝ }
+{
+    if payment.kind != 0 {
+        return false;
+    }
+    payment.recipient == payment.sender.0
+}
+
+// A certificate of the next sequence: the sender is debited, an account that it pays is credited.
+fn pay(s: &mut [u8], payment: Payment, votes: u64, from: Record) -> ConfirmAnswer
+    requires { ⌜ (length (now s) ≡ 4616) × (isPayment payment ≡ true) × (from .next .0 ≤ 4095) × Fits from × ((eqb (payment .kind) 1 || isFormed base (now s) (payment .recipient)) ≡ true) ⌝ }
+    ensures { λ r. ⌜ outcome (confirmSaid r) (now (s .exit)) ≡ calls.pay base (now (s .entry)) payment votes from (recordOf base (now (s .entry)) (payment .recipient)) ⌝ }
+{
+    let sender = payment.sender;
+    if to_itself(payment) {
+        from.paid(0).write(s, sender);
+        return ConfirmAnswer::Confirmed(votes);
+    }
+    if from.balance < payment.amount {
+        return ConfirmAnswer::Refused(Refusal::BadState);
+    }
+    if payment.kind == 1 {
+        from.paid(payment.amount).write(s, sender);
+        return ConfirmAnswer::Confirmed(votes);
+    }
+    let to = Record::read(s, Account(payment.recipient));
+    if to.balance + payment.amount > balance::HIGHEST {
+        return ConfirmAnswer::Refused(Refusal::BadState);
+    }
+    from.paid(payment.amount).write(s, sender);
+    to.credited(payment.amount).write(s, Account(payment.recipient));
+    ConfirmAnswer::Confirmed(votes)
+}
+
+// Whether the recipient's record, if the payment touches one, is well formed.
+fn recipient_formed(s: &[u8], payment: Payment) -> bool
+    requires { ⌜ (length (now s) ≡ 4616) × (isPayment payment ≡ true) ⌝ }
+    ensures { λ r. ⌜ r ≡ (eqb (payment .kind) 1 || isFormed base (now (s .entry)) (payment .recipient)) ⌝ }
+{
+    if payment.kind == 1 {
+        return true;
+    }
+    Record::formed(s, Account(payment.recipient))
+}
+
+// A payment that a quorum voted for is confirmed, whatever the balance.
+pub fn settle(s: &mut [u8], payment: Payment, votes: u64) -> ConfirmAnswer
+    requires { ⌜ (length (now s) ≡ 4616) × (isPayment payment ≡ true) ⌝ }
+    ensures { λ r. ⌜ outcome (confirmSaid r) (now (s .exit)) ≡ calls.settle base (now (s .entry)) payment votes ⌝ }
+{
+    let sender = payment.sender;
+    if !Record::formed(s, sender) {
+        return ConfirmAnswer::Refused(Refusal::BadState);
+    }
+    if !recipient_formed(s, payment) {
+        return ConfirmAnswer::Refused(Refusal::BadState);
+    }
+    let record = Record::read(s, sender);
+    if payment.sequence.0 < record.next.0 {
+        return ConfirmAnswer::Already(votes);
+    }
+    if payment.sequence.0 != record.next.0 {
+        return ConfirmAnswer::Refused(Refusal::NotNextSequence);
+    }
+    pay(s, payment, votes, record)
+}
+
+// A funding order with a good verdict: the account is credited if the index is the next.
+pub fn credit(s: &mut [u8], funding: Funding) -> CreditAnswer
+    requires { ⌜ (length (now s) ≡ 4616) × (isFunding funding ≡ true) ⌝ }
+    ensures { λ r. ⌜ outcome (creditSaid r) (now (s .exit)) ≡ calls.credit base (now (s .entry)) funding ⌝ }
+{
+    let account = funding.account;
+    let index = funding.index;
+    if !Record::formed(s, account) {
+        return CreditAnswer::Refused(Refusal::BadState);
+    }
+    let record = Record::read(s, account);
+    let last = state::last_index(s);
+    if index.0 != last.0 + 1 {
+        return CreditAnswer::Refused(Refusal::NotNextIndex);
+    }
+    if record.balance + funding.amount > balance::HIGHEST {
+        return CreditAnswer::Refused(Refusal::BadState);
+    }
+    state::put_index(s, index);
+    record.credited(funding.amount).write(s, account);
+    CreditAnswer::Credited
+}
