@@ -1,10 +1,12 @@
 -- What the values of a reader's answer tell: the very payment or funding order of a message that has it. Assumes nothing.
-use Prim.Native.Nat.{ℕ}
-use mathlib.Core.Path.{_≡_, ap}
+use Prim.Native.Nat.{ℕ, _+_, _≤_}
+use mathlib.Core.Path.{_≡_, ap, _∙_}
 use mathlib.Core.Bool.{true}
 use mathlib.Core.List.{List, _∷_}
+use native.Mathlib.Omega.{arith}
 use lib.ListN.{length, getD, drop}
 use lib.Dec.{eqb}
+use Rattle.octets.specs.Octets.{two, number}
 use Rattle.wire.specs.Fields.{laid}
 use Rattle.wire.specs.Messages.{bodyFields, payment, isPayment, certificateFields, inside, fundingFields, funding, isFunding}
 use Rattle.wire.specs.Votes.{Committee, known, rising, good, votes, signersIn}
@@ -12,6 +14,8 @@ use Rattle.wire.specs.Refusals.{Said, gives, paymentValues, fundingValues}
 use Rattle.wire.specs.Readers.{readPayment, isBody, readOrderPayment, isOrder, readFunding, judgedBy}
 use Rattle.wire.specs.declared.kinds.Payment.{Payment}
 use Rattle.wire.specs.declared.kinds.Funding.{Funding}
+use Rattle.wire.proofs.FieldLaws.{length-cut}
+use Rattle.wire.proofs.Laid.{order-laid, body-laid}
 use Rattle.messages.proofs.Onward.{gives-held, payment-read, order-read}
 
 -- a payment from its values
@@ -35,25 +39,45 @@ pub payment-told : (p : Payment) (b : List ℕ) → gives (paymentValues p) ≡ 
 payment-told p b e = let r = payment-read b e in (simp (r .0, r .1), ap paymentOf (r .2))
 
 -- and that of the body inside an order
-pub order-told : (p : Payment) (m : List ℕ) → gives (paymentValues p) ≡ readOrderPayment m → (isOrder m ≡ true) × (p ≡ payment (inside m))
+pub order-told : (p : Payment) (m : List ℕ) → gives (paymentValues p) ≡ readOrderPayment m → (isOrder m ≡ true) × (p ≡ payment (inside m)) × (isPayment p ≡ true)
 order-told p m e =
     let r = order-read m e in
-    let q = payment-told p (inside m) (r .1) in
-    (simp (r .0, q .0), q .1)
+    let q = payment-read (inside m) (r .1) in
+    let s : p ≡ payment (inside m) = ap paymentOf (q .2) in
+    (simp (r .0, q .0, q .1), s, ap isPayment s ∙ q .1)
+
+-- what an accepted order is known to have
+pub record OrderFacts (m : List ℕ) : Type 0 where
+  pub accepted : isOrder m ≡ true
+  pub least : 25 ≤ number two m 1
+  pub most : number two m 1 ≤ 57
+  pub size : length (inside m) ≡ number two m 1
+  pub total : length m ≡ number two m 1 + 70
+
+pub order-facts : {v : ℕ} {vs : List ℕ} (m : List ℕ) → gives (v ∷ vs) ≡ readOrderPayment m → OrderFacts m
+order-facts m e =
+    let o = order-read m e in
+    let b = payment-read (inside m) (o .1) in
+    let l = order-laid m (o .0) in
+    let t : length m ≡ number two m 1 + 70 = l .total in
+    let s : length (inside m) ≡ number two m 1 = length-cut m 3 (number two m 1) (omega arith) in
+    let d = body-laid (inside m) (b .0) in
+    record { accepted = simp (o .0, b .0, b .1); least = omega arith; most = omega arith; size = s; total = t }
 
 -- so of a funding order
-pub funding-told : (o : Funding) (m : List ℕ) → gives (fundingValues o) ≡ readFunding m → (isFunding (funding m) ≡ true) × (o ≡ funding m)
+pub funding-told : (o : Funding) (m : List ℕ) → gives (fundingValues o) ≡ readFunding m → (o ≡ funding m) × (isFunding o ≡ true)
 unfolding readFunding
 funding-told o m e =
     let p = gives-held (laid m fundingFields) 1 _ e in
     let q = gives-held (isFunding (funding m)) 2 _ (p .1) in
-    (q .0, funding-same o (funding m) (q .1))
+    let s : o ≡ funding m = funding-same o (funding m) (q .1) in
+    (s, ap isFunding s ∙ q .0)
 
 -- what a judged certificate tells: its votes and its payment
 pub record Judged (m : List ℕ) (votes : ℕ) (p : Payment) : Type 0 where
-  pub inRange : isPayment (payment (inside m)) ≡ true
-  pub count : votes ≡ length (signersIn m)
   pub said : p ≡ payment (inside m)
+  pub inRange : isPayment p ≡ true
+  pub count : votes ≡ length (signersIn m)
 
 pub judged-told : (c : Committee) (m verdicts : List ℕ) (n : ℕ) (p : Payment) → gives (n ∷ paymentValues p) ≡ judgedBy c m verdicts → Judged m n p
 unfolding judgedBy
@@ -66,4 +90,5 @@ judged-told c m verdicts n p e =
     let t₆ = gives-held (rising (signersIn m)) 6 _ (t₅ .1) in
     let t₇ = gives-held (good verdicts) 4 _ (t₆ .1) in
     let t₈ = gives-held (c .quorum (signersIn m)) 7 _ (t₇ .1) in
-    record { inRange = t₃ .0; count = ap (λ (s : Said). getD (s .values) 0 0) (t₈ .1); said = ap (λ (s : Said). paymentOf (drop 1 (s .values))) (t₈ .1) }
+    let s : p ≡ payment (inside m) = ap (λ (s : Said). paymentOf (drop 1 (s .values))) (t₈ .1) in
+    record { said = s; inRange = ap isPayment s ∙ t₃ .0; count = ap (λ (s : Said). getD (s .values) 0 0) (t₈ .1) }

@@ -1,17 +1,19 @@
 -- What the tests of a record and a state say of their numbers. Assumes nothing.
 use Prim.Native.Nat.{ℕ, suc, _+_, _≤_}
 use mathlib.Core.Path.{_≡_, sym, ap, _∙_}
-use mathlib.Core.Bool.{Bool, true}
+use mathlib.Core.Bool.{Bool, true, and-eq-true-iff}
 use mathlib.Core.List.{List, _++_}
 use native.Mathlib.Omega.{arith}
-use borrow.Author.Tests.{leb-true}
+use borrow.Author.Tests.{leb-true, eqb-true}
 use lib.Dec.{leb}
 use lib.ListN.{length, replicate, length-append, length-replicate}
 use Rattle.octets.specs.Octets.{one, number, bytes, put}
 use Rattle.octets.proofs.Laws.{length-bytes, put-all}
+use Rattle.wire.specs.Numbers.{isFaults}
 use Rattle.wire.proofs.FieldLaws.{both}
 use Rattle.records.specs.Balances.{highest}
 use Rattle.records.specs.Records.{headBytes, inRange, isRecord, recordAt, Fits, holding, paid, credited}
+use Rattle.records.specs.States.{base, isState, isBaseHeader}
 use Rattle.records.specs.declared.record.Record.{Record}
 
 -- numbers in range fit their bytes
@@ -66,3 +68,12 @@ fits-paid r n f h = record { waiting = omega arith; next = omega arith; balance 
 pub fits-credited : (r : Record) (n : ℕ) → Fits r → r .balance + n ≤ highest → Fits (credited r n)
 unfolding credited
 fits-credited r n f h = record { waiting = f .waiting; next = f .next; balance = h }
+
+-- a state with its length and a well-formed header
+pub state-length : (s : List ℕ) → isState base s ≡ true → length s ≡ 4616
+unfolding isState
+state-length s e = eqb-true _ _ (both _ _ e .0)
+
+pub state-faults : (s : List ℕ) → isState base s ≡ true → isFaults (number one s 0) ≡ true
+unfolding isState isBaseHeader
+state-faults s e = let tests = simp and-eq-true-iff at e in tests .1 .0

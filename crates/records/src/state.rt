@@ -2,6 +2,7 @@
 ghost use mathlib.Core.Path.{_≡_};
 ghost use Prim.Native.Nat.{_≤_, _<_};
 ghost use lib.ListN.{length};
+ghost use Rattle.octets.specs.Octets as octets;
 ghost use Rattle.records.specs.States as states;
 ghost use Rattle.records.specs.States.{base};
 use crate::committee::Committee;
@@ -10,6 +11,14 @@ use wire::kinds::Machine;
 
 pub const LENGTH: usize = 4616;
 
+// The committee that the header names.
+pub fn committee(s: &[u8]) -> Committee
+    requires { ⌜ length (now s) ≡ 4616 ⌝ }
+    ensures { λ r. ⌜ r .faults ≡ octets.number octets.one (now (s .entry)) 0 ⌝ }
+{
+    Committee::of(octets::get8(s, 0))
+}
+
 // Whether length and header are as they should be.
 pub fn formed(s: &[u8]) -> bool
     ensures { λ r. ⌜ r ≡ states.isState base (now (s .entry)) ⌝ }
@@ -17,7 +26,7 @@ pub fn formed(s: &[u8]) -> bool
     if s.len() != LENGTH {
         return false;
     }
-    let committee = Committee::of(octets::get8(s, 0));
+    let committee = committee(s);
     if !committee.in_range() {
         return false;
     }
@@ -42,7 +51,7 @@ pub fn put_index(s: &mut [u8], index: FundingIndex)
 }
 
 // A fresh state is f, the machine's own number and zeros.
-pub fn make_fresh(s: &mut [u8], committee: Committee, own: Machine)
+pub fn write_fresh(s: &mut [u8], committee: Committee, own: Machine)
     requires { ⌜ (length (now s) ≡ 4616) × (committee .faults < 256) × (own .0 < 256) ⌝ }
     ensures { λ _. ⌜ now (s .exit) ≡ states.freshState base (committee .faults) (own .0) ⌝ }
 {

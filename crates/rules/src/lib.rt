@@ -81,7 +81,8 @@ fn pay(s: &mut [u8], payment: Payment, votes: u64, from: Record) -> ConfirmAnswe
         return ConfirmAnswer::Refused(Refusal::BadState);
     }
     from.paid(payment.amount).write(s, sender);
-    to.credited(payment.amount).write(s, Account(payment.recipient));
+    to.credited(payment.amount)
+        .write(s, Account(payment.recipient));
     ConfirmAnswer::Confirmed(votes)
 }
 

@@ -1,6 +1,5 @@
-use Prim.Native.Nat.{ℕ, _+_, _-_, _≤_}
-use mathlib.Core.Bool.{true}
-use mathlib.Core.List.{List, [], _∷_}
+use Prim.Native.Nat.{ℕ, _+_, _-_}
+use mathlib.Core.List.{List, []}
 use mathlib.Core.Path.{_≡_, sym, ap, _∙_}
 use native.Mathlib.Omega.{arith}
 use lib.ListN.{length}
@@ -9,12 +8,11 @@ use denote.Ref.{now}
 use Rattle.octets.specs.Octets.{two, number, cut}
 use Rattle.wire.specs.declared.kinds.Note.{Note}
 use Rattle.wire.specs.Readers.{OrderShown, readOrderPayment, isOrder, held, noteHeld, readOrder}
-use Rattle.wire.specs.Refusals.{Said, gives}
+use Rattle.wire.specs.Refusals.{Said}
 use Rattle.wire.specs.Messages.{noteIn, inside, signatureIn}
 use Rattle.wire.specs.Fields.{need}
-use Rattle.wire.proofs.Laid.{order-laid, body-laid}
-use Rattle.wire.proofs.FieldLaws.{length-cut}
-use Rattle.messages.proofs.Onward.{order-read, payment-read, order-refused}
+use Rattle.messages.proofs.Onward.{order-refused}
+use Rattle.messages.proofs.Told.{order-facts}
 use Rattle.messages.proofs.order.read_order.Statement.{statement}
 use Rattle.messages.proofs.order.read_order.Tie as tie
 
@@ -23,24 +21,6 @@ shown : (m : List ℕ) (a : Said) (n : Note) (s : List ℕ) → a ≡ readOrderP
     → s ≡ held 64 (need (isOrder m) [] (signatureIn m)) → _≡_ {A = OrderShown} (record { answer = a; note = n; signature = s }) (readOrder m)
 unfolding readOrder
 shown m a n s e f g = λ i. record { answer = e i; note = f i; signature = g i }
-
--- what an accepted order is known to have
-record Facts (m : List ℕ) : Type 0 where
-  accepted : isOrder m ≡ true
-  least : 25 ≤ number two m 1
-  most : number two m 1 ≤ 57
-  size : length (inside m) ≡ number two m 1
-  total : length m ≡ number two m 1 + 70
-
-order-facts : {v : ℕ} {vs : List ℕ} (m : List ℕ) → gives (v ∷ vs) ≡ readOrderPayment m → Facts m
-order-facts m e =
-    let o = order-read m e in
-    let b = payment-read (inside m) (o .1) in
-    let l = order-laid m (o .0) in
-    let t : length m ≡ number two m 1 + 70 = l .total in
-    let s : length (inside m) ≡ number two m 1 = length-cut m 3 (number two m 1) (omega arith) in
-    let d = body-laid (inside m) (b .0) in
-    record { accepted = simp (o .0, b .0, b .1); least = omega arith; most = omega arith; size = s; total = t }
 
 order-payment-requires : tie.Need-order-payment-requires
 order-payment-requires c κs = search needs

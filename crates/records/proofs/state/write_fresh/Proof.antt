@@ -1,8 +1,8 @@
 use Rattle.records.specs.States.{freshState}
 use Rattle.records.proofs.Facts.{fresh-put}
 use borrow.Author.Needs.{needs}
-use Rattle.records.proofs.state.make_fresh.Statement.{statement}
-use Rattle.records.proofs.state.make_fresh.Tie as tie
+use Rattle.records.proofs.state.write_fresh.Statement.{statement}
+use Rattle.records.proofs.state.write_fresh.Tie as tie
 
 clear-requires : tie.Need-clear-requires
 clear-requires c κs = search needs
@@ -20,6 +20,6 @@ returns : tie.Need-returns
 unfolding freshState
 returns c = fresh-put _ (c .before .before .before .before .before .before .before .before .before .before .before .before .before .args .committee .faults) (c .before .before .before .before .before .before .before .before .before .before .before .before .before .args .own .0) 4614 (c .before .before .before .before .before .before .before .before .before .before .before .before .before .pre .0) (c .before .before .before .before .before .before .before .before .before .before .clear .ensures) (c .before .before .before .before .before .before .put8 .ensures) (c .before .before .put82 .ensures)
 
-pub make-fresh-spec : {M : Type 1} → statement M
-make-fresh-spec =
+pub write-fresh-spec : {M : Type 1} → statement M
+write-fresh-spec =
     tie.close (tie.spec clear-requires put8-requires put8-requires-2 same-length returns)

@@ -1,0 +1,140 @@
+// The calls on a settlement machine. None asks anything of its caller; a refusal changes nothing.
+ghost use mathlib.Core.Path.{_≡_};
+ghost use Rattle.records.specs.States.{base};
+ghost use Rattle.records.specs.Answers.{outcome, freshSaid, orderSaid, confirmSaid, creditSaid, accountShown};
+ghost use Rattle.records.specs.Calls as calls;
+use messages::certificate;
+use messages::funding;
+use messages::order;
+use records::answers::AccountAnswer;
+use records::answers::ConfirmAnswer;
+use records::answers::CreditAnswer;
+use records::answers::FreshAnswer;
+use records::answers::OrderAnswer;
+use records::answers::Reading;
+use records::balance;
+use records::committee::Committee;
+use records::record::Record;
+use records::state;
+use wire::answers::BodyAnswer;
+use wire::answers::CertificateAnswer;
+use wire::answers::FundingAnswer;
+use wire::answers::Refusal;
+use wire::kinds::Account;
+use wire::kinds::Machine;
+
+pub fn make_fresh(s: &mut [u8], committee: Committee, own: Machine) -> FreshAnswer
+    ensures { λ r. ⌜ outcome (freshSaid r) (now (s .exit)) ≡ calls.fresh base (now (s .entry)) (committee .faults) (own .0) ⌝ }
+{
+    if s.len() != state::LENGTH {
+        return FreshAnswer::Refused(Refusal::BadState);
+    }
+    if !committee.in_range() {
+        return FreshAnswer::Refused(Refusal::OutOfRange);
+    }
+    if !committee.seats(own) {
+        return FreshAnswer::Refused(Refusal::OutOfRange);
+    }
+    state::write_fresh(s, committee, own);
+    FreshAnswer::Made
+}
+
+pub fn handle_order(s: &mut [u8], message: &[u8], verdicts: &[u8]) -> OrderAnswer
+    ensures { λ r. ⌜ outcome (orderSaid r) (now (s .exit)) ≡ calls.order base (now (s .entry)) (now (message .entry)) (now (verdicts .entry)) ⌝ }
+{
+    if !state::formed(s) {
+        return OrderAnswer::Refused(Refusal::BadState);
+    }
+    match order::order_payment(message) {
+        BodyAnswer::Refused(refusal) => OrderAnswer::Refused(refusal),
+        BodyAnswer::Pays(payment) => {
+            if verdicts.len() != 1 {
+                return OrderAnswer::Refused(Refusal::VerdictCount);
+            }
+            if !votes::all_good(verdicts) {
+                return OrderAnswer::Refused(Refusal::BadVerdict);
+            }
+            let size = octets::get16(message, 1) as usize;
+            rules::vote(s, payment, octets::cut(message, 3, size))
+        }
+    }
+}
+
+pub fn handle_certificate(s: &mut [u8], message: &[u8], verdicts: &[u8]) -> ConfirmAnswer
+    ensures { λ r. ⌜ outcome (confirmSaid r) (now (s .exit)) ≡ calls.certificate base (now (s .entry)) (now (message .entry)) (now (verdicts .entry)) ⌝ }
+{
+    if !state::formed(s) {
+        return ConfirmAnswer::Refused(Refusal::BadState);
+    }
+    let committee = state::committee(s);
+    match certificate::judge_certificate(committee.faults, message, verdicts) {
+        CertificateAnswer::Refused(refusal) => ConfirmAnswer::Refused(refusal),
+        CertificateAnswer::Certifies(payment, machines) => rules::settle(s, payment, machines),
+    }
+}
+
+pub fn handle_funding(s: &mut [u8], message: &[u8], verdicts: &[u8]) -> CreditAnswer
+    ensures { λ r. ⌜ outcome (creditSaid r) (now (s .exit)) ≡ calls.fundingOrder base (now (s .entry)) (now (message .entry)) (now (verdicts .entry)) ⌝ }
+{
+    if !state::formed(s) {
+        return CreditAnswer::Refused(Refusal::BadState);
+    }
+    match funding::read_funding(message) {
+        FundingAnswer::Refused(refusal) => CreditAnswer::Refused(refusal),
+        FundingAnswer::Funds(order) => {
+            if verdicts.len() != 1 {
+                return CreditAnswer::Refused(Refusal::VerdictCount);
+            }
+            if !votes::all_good(verdicts) {
+                return CreditAnswer::Refused(Refusal::BadVerdict);
+            }
+            rules::credit(s, order)
+        }
+    }
+}
+
+pub fn read_account(s: &[u8], account: Account) -> AccountAnswer
+    ensures { λ r. ⌜ accountShown r ≡ calls.account base (now (s .entry)) (account .0) ⌝ }
+{
+    if !state::formed(s) {
+        return AccountAnswer::Refused(Refusal::BadState);
+    }
+    if !account.in_range() {
+        return AccountAnswer::Refused(Refusal::OutOfRange);
+    }
+    if !Record::formed(s, account) {
+        return AccountAnswer::Refused(Refusal::BadState);
+    }
+    let record = Record::read(s, account);
+    let next = record.next;
+    AccountAnswer::Shows(Reading {
+        used: record.used,
+        next,
+        balance: balance::signed(record.balance),
+        free: balance::free(record.balance),
+    })
+}
+
+// The body that stands for an order's sender: the one pending in the state, otherwise the message's own, uncopied in both cases.
+pub fn standing_body<'a>(message: &'a [u8], s: &'a [u8]) -> &'a [u8]
+    ensures { λ r. ⌜ now r ≡ calls.standing base (now (message .entry)) (now (s .entry)) ⌝ }
+{
+    if !state::formed(s) {
+        return octets::cut(message, 0, 0);
+    }
+    match order::order_payment(message) {
+        BodyAnswer::Refused(_) => octets::cut(message, 0, 0),
+        BodyAnswer::Pays(payment) => {
+            let sender = payment.sender;
+            if !Record::formed(s, sender) {
+                return octets::cut(message, 0, 0);
+            }
+            let pending = Record::pending(s, sender);
+            if 0 < pending.len() {
+                return pending;
+            }
+            let size = octets::get16(message, 1) as usize;
+            octets::cut(message, 3, size)
+        }
+    }
+}
