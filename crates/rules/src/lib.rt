@@ -65,24 +65,27 @@ fn pay(s: &mut [u8], payment: Payment, votes: u64, from: Record) -> ConfirmAnswe
     ensures { λ r. ⌜ outcome (confirmSaid r) (now (s .exit)) ≡ calls.pay base (now (s .entry)) payment votes from (recordOf base (now (s .entry)) (payment .recipient)) ⌝ }
 {
     let sender = payment.sender;
+    let amount = payment.amount;
     if to_itself(payment) {
         from.paid(0).write(s, sender);
         return ConfirmAnswer::Confirmed(votes);
     }
-    if from.balance < payment.amount {
+    if from.balance < amount {
         return ConfirmAnswer::Refused(Refusal::BadState);
     }
     if payment.kind == 1 {
-        from.paid(payment.amount).write(s, sender);
+        from.paid(amount).write(s, sender);
         return ConfirmAnswer::Confirmed(votes);
     }
-    let to = Record::read(s, Account(payment.recipient));
-    if to.balance + payment.amount > balance::HIGHEST {
+    let recipient = Account(payment.recipient);
+    let to = Record::read(s, recipient);
+    if to.balance + amount > balance::HIGHEST {
         return ConfirmAnswer::Refused(Refusal::BadState);
     }
-    from.paid(payment.amount).write(s, sender);
-    to.credited(payment.amount)
-        .write(s, Account(payment.recipient));
+    let payer = from.paid(amount);
+    let payee = to.credited(amount);
+    payer.write(s, sender);
+    payee.write(s, recipient);
     ConfirmAnswer::Confirmed(votes)
 }
 
@@ -109,14 +112,14 @@ pub fn settle(s: &mut [u8], payment: Payment, votes: u64) -> ConfirmAnswer
     if !recipient_formed(s, payment) {
         return ConfirmAnswer::Refused(Refusal::BadState);
     }
-    let record = Record::read(s, sender);
-    if payment.sequence.0 < record.next.0 {
+    let from = Record::read(s, sender);
+    if payment.sequence.0 < from.next.0 {
         return ConfirmAnswer::Already(votes);
     }
-    if payment.sequence.0 != record.next.0 {
+    if payment.sequence.0 != from.next.0 {
         return ConfirmAnswer::Refused(Refusal::NotNextSequence);
     }
-    pay(s, payment, votes, record)
+    pay(s, payment, votes, from)
 }
 
 // A funding order with a good verdict: the account is credited if the index is the next.
