@@ -124,13 +124,13 @@ unfolding isState isBaseHeader freshState number bytes allZero
 fresh-state f own h k = rw (le-leb f 5 h, le-leb own (3 * f) k)
 
 -- a well-formed state has room for each record, and each says a well-formed record
-record-room : (rules : Rules) (s : List ℕ) (account : ℕ) → WellFormed rules s → account ≤ 63 → place rules account + 72 ≤ length s
+pub record-room : (rules : Rules) (s : List ℕ) (account : ℕ) → WellFormed rules s → account ≤ 63 → place rules account + 72 ≤ length s
 unfolding isState
 record-room rules s account w h =
     let l : length s ≡ stateLength rules = eqb-true _ _ (both (eqb (length s) (stateLength rules)) (rules .isHeader s) (w .state) .0) in
     omega arith
 
-formed-of : (rules : Rules) (s : List ℕ) (account : ℕ) → WellFormed rules s → account ≤ 63 → Formed account (recordOf rules s account)
+pub formed-of : (rules : Rules) (s : List ℕ) (account : ℕ) → WellFormed rules s → account ≤ 63 → Formed account (recordOf rules s account)
 formed-of rules s account w h = formed-record account s (place rules account) (record-room rules s account w h) (w .records account h)
 
 -- length and header after bytes were put
@@ -139,7 +139,7 @@ unfolding isState
 put-state rules s at vs e = rw (e, length-put s at vs)
 
 -- a well-formed record in the place of another keeps a state well formed
-withRecord-keeps : (rules : Rules) → Lays rules → (s : List ℕ) (account : ℕ) (r : Record) → account ≤ 63 → WellFormed rules s → Formed account r → WellFormed rules (withRecord rules s account r)
+pub withRecord-keeps : (rules : Rules) → Lays rules → (s : List ℕ) (account : ℕ) (r : Record) → account ≤ 63 → WellFormed rules s → Formed account r → WellFormed rules (withRecord rules s account r)
 withRecord-keeps rules l s account r h w f = record {
   state = put-state rules s (place rules account) (recordBytes r) (l .records-free s (place rules account) (recordBytes r) (omega arith)) ∙ w .state;
   records = λ b k. go b k (eqb account b) refl;
@@ -152,7 +152,7 @@ withRecord-keeps rules l s account r h w f = record {
     go b k false e = formed-stays rules s account b r (omega (arith, f .size)) (eqb-false account b e) ∙ w .records b k
 
 -- and so does another index
-withIndex-keeps : (rules : Rules) → Lays rules → (s : List ℕ) (index : ℕ) → WellFormed rules s → WellFormed rules (withIndex s index)
+pub withIndex-keeps : (rules : Rules) → Lays rules → (s : List ℕ) (index : ℕ) → WellFormed rules s → WellFormed rules (withIndex s index)
 withIndex-keeps rules l s index w = record {
   state = put-state rules s 2 (bytes two index) (l .index-free s index) ∙ w .state;
   records = λ b k. formed-behind rules s 2 (bytes two index) b (omega (arith, length-bytes two index, l .room)) ∙ w .records b k;
@@ -188,5 +188,5 @@ pub funding-keeps : (rules : Rules) → Lays rules → (s m verdicts : List ℕ)
 funding-keeps rules l s m verdicts w =
     let o = funding m in
     funding-comes (λ x. WellFormed rules (x .state)) rules s (λ _. w) m verdicts (λ v.
-    withRecord-keeps rules l (withIndex s (o .index .0)) (o .account .0) _ (v .account) (withIndex-keeps rules l s (o .index .0) w)
-    (credited-formed (o .account .0) _ (o .amount) (formed-of rules s (o .account .0) w (v .account)) (v .room)))
+    withRecord-keeps rules l (withIndex s (o .index .0)) (o .account .0) _ (v .range .account) (withIndex-keeps rules l s (o .index .0) w)
+    (credited-formed (o .account .0) _ (o .amount) (formed-of rules s (o .account .0) w (v .range .account)) (v .room)))

@@ -3,3 +3,4 @@ pub mod Kept
 pub mod Determined
 pub mod RecordLaws
 pub mod Outcomes
+pub mod Limits

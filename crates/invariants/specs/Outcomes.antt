@@ -1,14 +1,14 @@
 -- What a call on a machine can come to: the bytes as they were, or new ones, with what the tests on the way said. Assumes nothing.
-use Prim.Native.Nat.{ℕ, zero, suc, _+_, _*_, _≤_, _<_}
+use Prim.Native.Nat.{ℕ, _+_, _*_, _≤_, _<_}
 use mathlib.Core.Path.{_≡_, refl, sym, _∙_}
-use mathlib.Core.Bool.{Bool, true, false, _||_, cond, false≢true, and-eq-true-iff}
+use mathlib.Core.Bool.{Bool, true, false, _||_, cond, false≢true}
 use mathlib.Core.List.{List}
 use native.Mathlib.Omega.{arith}
 use lib.ListN.{length}
 use lib.Dec.{leb, ltb, eqb, lit<}
 use borrow.Author.Tests.{leb-true, ltb-false, eqb-true, eqb-false, eq-eqb}
 use Rattle.octets.specs.Octets.{same}
-use Rattle.wire.specs.Numbers.{isFaults, isRecipient}
+use Rattle.wire.specs.Numbers.{isFaults}
 use Rattle.wire.specs.Fields.{need, laid}
 use Rattle.wire.specs.Messages.{bodyFields, orderFields, certificateFields, fundingFields, payment, inside, isPayment, funding, isFunding}
 use Rattle.wire.specs.Votes.{Committee, signersIn, good}
@@ -18,6 +18,7 @@ use Rattle.wire.specs.declared.kinds.Payment.{Payment}
 use Rattle.wire.specs.declared.kinds.Funding.{Funding}
 use Rattle.wire.proofs.FieldLaws.{both}
 use Rattle.roundtrip.specs.Answers.{through, said}
+use Rattle.records.proofs.Ranges.{PaymentRange, payment-range, FundingRange, funding-range}
 use Rattle.records.specs.declared.record.Record.{Record}
 use Rattle.records.specs.Balances.{nought, highest}
 use Rattle.records.specs.Records.{holding, paid, credited}
@@ -25,32 +26,8 @@ use Rattle.records.specs.States.{Rules, stateLength, isState, recordOf, isForme
 use Rattle.records.specs.Answers.{Outcome, outcome, refused, done, voteNew, voteRepeated, confirmed, already}
 use Rattle.records.specs.Calls.{fresh, order, vote, voteOn, toItself, pay, settleOn, settle, certificate, creditOn, credit, fundingOrder}
 
--- what the values of a payment in range keep to
-pub record InRange (p : Payment) : Type 0 where
-  pub sender : p .sender .0 ≤ 63
-  pub kind : p .kind ≤ 1
-  pub recipient : p .kind ≡ 0 → p .recipient ≤ 63
-  pub sequence : p .sequence .0 ≤ 4_095
-
-recipient-range : (kind n : ℕ) → isRecipient kind n ≡ true → (kind ≤ 1) × (kind ≡ 0 → n ≤ 63)
-recipient-range zero n h = (omega arith, λ _. leb-true _ _ h)
-recipient-range (suc zero) n h = (omega arith, λ e. omega arith)
-recipient-range (suc (suc kind)) n h = absurd (false≢true h)
-
-payment-range : (p : Payment) → isPayment p ≡ true → InRange p
-unfolding isPayment
-payment-range p h =
-    let tests = simp and-eq-true-iff at h in
-    let r = recipient-range (p .kind) (p .recipient) (tests .1 .0) in
-    record { sender = leb-true _ _ (tests .0); kind = r .0; recipient = r .1; sequence = leb-true _ _ (tests .1 .1 .1) }
-
--- the account of a funding order in range
-account-range : (o : Funding) → isFunding o ≡ true → o .account .0 ≤ 63
-unfolding isFunding
-account-range o h = let tests = simp and-eq-true-iff at h in leb-true _ _ (tests .1 .0)
-
 -- what is read without a refusal holds a body
-order-body : (m : List ℕ) → said (readOrderPayment m) ≡ 0 → isBody (inside m) ≡ true
+pub order-body : (m : List ℕ) → said (readOrderPayment m) ≡ 0 → isBody (inside m) ≡ true
 unfolding readPayment
 order-body m e =
     let a = through said (laid m orderFields) (refuses 1) _ (lit< tt) e in
@@ -58,7 +35,7 @@ order-body m e =
     let c = through said (isPayment (payment (inside m))) (refuses 2) _ (lit< tt) (b .1) in
     rw (b .0, c .0)
 
-certificate-body : (c : Committee) (m verdicts : List ℕ) → said (judgedBy c m verdicts) ≡ 0 → isBody (inside m) ≡ true
+pub certificate-body : (c : Committee) (m verdicts : List ℕ) → said (judgedBy c m verdicts) ≡ 0 → isBody (inside m) ≡ true
 unfolding judgedBy
 certificate-body c m verdicts e =
     let a = through said (laid m certificateFields) (refuses 1) _ (lit< tt) e in
@@ -66,14 +43,14 @@ certificate-body c m verdicts e =
     let c = through said (isPayment (payment (inside m))) (refuses 2) _ (lit< tt) (b .1) in
     rw (b .0, c .0)
 
-funding-order : (m : List ℕ) → said (readFunding m) ≡ 0 → isFunding (funding m) ≡ true
+pub funding-order : (m : List ℕ) → said (readFunding m) ≡ 0 → isFunding (funding m) ≡ true
 unfolding readFunding
 funding-order m e =
     let a = through said (laid m fundingFields) (refuses 1) _ (lit< tt) e in
     through said (isFunding (funding m)) (refuses 2) _ (lit< tt) (a .1) .0
 
 -- the values in a body are in range
-body-range : (body : List ℕ) → isBody body ≡ true → InRange (payment body)
+pub body-range : (body : List ℕ) → isBody body ≡ true → PaymentRange (payment body)
 body-range body h = payment-range (payment body) (both (laid body bodyFields) (isPayment (payment body)) h .1)
 
 -- the bytes after a new vote, after a payment that takes n off the sender, after one to another account, and after a funding order
@@ -92,7 +69,7 @@ afterFunding rules s o = let account = o .account .0 in withRecord rules (withIn
 -- a new vote: its body, and the sender's record
 pub record Voted (body : List ℕ) (r : Record) : Type 0 where
   pub formed : isBody body ≡ true
-  pub range : InRange (payment body)
+  pub range : PaymentRange (payment body)
   pub used : r .used ≡ true
   pub waiting : r .waiting ≡ 0
   pub next : payment body .sequence .0 ≡ r .next .0
@@ -100,7 +77,7 @@ pub record Voted (body : List ℕ) (r : Record) : Type 0 where
 
 -- a certificate of the next sequence: its payment, and the sender's record
 pub record Settled (p : Payment) (r : Record) : Type 0 where
-  pub range : InRange p
+  pub range : PaymentRange p
   pub next : p .sequence .0 ≡ r .next .0
 
 -- one to another account: the sender's record, and the recipient's
@@ -112,7 +89,7 @@ pub record Moved (p : Payment) (from to : Record) : Type 0 where
 
 -- a funding order of the next index: the last one, and the account's record
 pub record Funded (last : ℕ) (o : Funding) (r : Record) : Type 0 where
-  pub account : o .account .0 ≤ 63
+  pub range : FundingRange o
   pub index : o .index .0 ≡ last + 1
   pub room : r .balance + o .amount ≤ highest
 
@@ -120,25 +97,25 @@ pub record Funded (last : ℕ) (o : Funding) (r : Record) : Type 0 where
 not-itself : (p : Payment) → toItself p ≡ false → p .kind ≡ 0 → p .recipient ≡ p .sender .0 → ⊥
 not-itself p e k r = false≢true (sym e ∙ rw (eq-eqb _ _ k, eq-eqb _ _ r))
 
-module _ (P : Outcome → Type 0) where
-  -- both ways of a test
-  need-case : (t : Bool) (failed rest : Outcome) → P failed → (t ≡ true → P rest) → P (need t failed rest)
+-- both ways of a test
+module _ {A : Type 0} (P : A → Type 0) where
+  pub need-case : (t : Bool) (failed rest : A) → P failed → (t ≡ true → P rest) → P (need t failed rest)
   need-case true failed rest f r = r refl
   need-case false failed rest f r = f
 
-  cond-case : (t : Bool) (a b : Outcome) → (t ≡ true → P a) → (t ≡ false → P b) → P (cond t a b)
+  pub cond-case : (t : Bool) (a b : A) → (t ≡ true → P a) → (t ≡ false → P b) → P (cond t a b)
   cond-case true a b f g = f refl
   cond-case false a b f g = g refl
 
-  -- what holds of the refusals and of a fresh state holds of what making one comes to
-  pub fresh-comes : (rules : Rules) (s : List ℕ) (f own : ℕ) → ((n : ℕ) → 0 < n → P (refused n s))
-      → (f ≤ 5 → own ≤ 3 * f → P (outcome done (freshState rules f own))) → P (fresh rules s f own)
-  unfolding fresh
-  fresh-comes rules s f own refusal made =
-      need-case (eqb (length s) (stateLength rules)) _ _ (refusal 16 (lit< tt)) (λ _.
-      need-case (isFaults f) _ _ (refusal 2 (lit< tt)) (λ a.
-      need-case (leb own (3 * f)) _ _ (refusal 2 (lit< tt)) (λ b.
-      made (leb-true _ _ a) (leb-true _ _ b))))
+-- what holds of the refusals and of a fresh state holds of what making one comes to
+pub fresh-comes : (P : Outcome → Type 0) (rules : Rules) (s : List ℕ) (f own : ℕ) → ((n : ℕ) → 0 < n → P (refused n s))
+    → (f ≤ 5 → own ≤ 3 * f → P (outcome done (freshState rules f own))) → P (fresh rules s f own)
+unfolding fresh
+fresh-comes P rules s f own refusal made =
+    need-case P (eqb (length s) (stateLength rules)) _ _ (refusal 16 (lit< tt)) (λ _.
+    need-case P (isFaults f) _ _ (refusal 2 (lit< tt)) (λ a.
+    need-case P (leb own (3 * f)) _ _ (refusal 2 (lit< tt)) (λ b.
+    made (leb-true _ _ a) (leb-true _ _ b))))
 
 -- what holds of every answer that leaves the bytes, and of those that change them, holds of what a call comes to
 module _ (P : Outcome → Type 0) (rules : Rules) (s : List ℕ) (left : (answer : Said) → P (outcome answer s)) where
@@ -208,4 +185,4 @@ module _ (P : Outcome → Type 0) (rules : Rules) (s : List ℕ) (left : (answer
       test (isFormed rules s (o .account .0)) 16 _ (λ _.
       test (eqb (o .index .0) (lastIndex s + 1)) 12 _ (λ index.
       test (leb (r .balance + o .amount) highest) 16 _ (λ room.
-      funded (record { account = account-range o (funding-order m (eqb-true _ _ read)); index = eqb-true _ _ index; room = leb-true _ _ room }))))))))
+      funded (record { range = funding-range o (funding-order m (eqb-true _ _ read)); index = eqb-true _ _ index; room = leb-true _ _ room }))))))))

@@ -67,7 +67,7 @@ cut-take (suc m) [] (suc i) n h = refl
 cut-take (suc m) (x ∷ s) (suc i) n h = cut-take m s i n (omega arith)
 
 -- a record's 72 bytes: a number, or a stretch, within them
-abbrev window : List ℕ → ℕ → List ℕ
+abbrev pub window : List ℕ → ℕ → List ℕ
 window s at = cut s at 72
 
 number-window : (k : ℕ) (s : List ℕ) (at i : ℕ) → i + 2 ^ k ≤ 72 → number k (window s at) i ≡ number k s (at + i)
@@ -98,7 +98,7 @@ range u w n b e =
     (leb-true _ _ (p .0), leb-true _ _ (q .0), leb-true _ _ (t .0), leb-true _ _ (t .1))
 
 -- a record is read from its 72 bytes alone
-record-window : (s : List ℕ) (at : ℕ) → recordAt s at ≡ recordAt (window s at) 0
+pub record-window : (s : List ℕ) (at : ℕ) → recordAt s at ≡ recordAt (window s at) 0
 unfolding recordAt
 record-window s at =
     rw (
@@ -400,7 +400,7 @@ zeros-behind x y m n k =
     (take-at (replicate n 0) (replicate k 0) n (length-replicate n 0))
 
 -- each record of a fresh state is zeros
-fresh-window : (f own account : ℕ) → account ≤ 63 → window (freshState base f own) (place base account) ≡ replicate 72 0
+pub fresh-window : (f own account : ℕ) → account ≤ 63 → window (freshState base f own) (place base account) ≡ replicate 72 0
 unfolding freshState bytes
 fresh-window f own account h =
     let n : ℕ = 6 + 72 * account in

@@ -1,5 +1,8 @@
 // The calls on a settlement machine. None asks anything of its caller; a refusal changes nothing.
 ghost use mathlib.Core.Path.{_≡_};
+ghost use mathlib.Core.Bool.{true};
+ghost use lib.ListN.{length};
+ghost use Rattle.wire.specs.Messages.{isFunding};
 ghost use Rattle.records.specs.States.{base};
 ghost use Rattle.records.specs.Answers.{outcome, freshSaid, orderSaid, confirmSaid, creditSaid, accountShown};
 ghost use Rattle.records.specs.Calls as calls;
@@ -21,6 +24,7 @@ use wire::answers::CertificateAnswer;
 use wire::answers::FundingAnswer;
 use wire::answers::Refusal;
 use wire::kinds::Account;
+use wire::kinds::Funding;
 use wire::kinds::Machine;
 
 pub fn make_fresh(s: &mut [u8], committee: Committee, own: Machine) -> FreshAnswer
@@ -55,7 +59,7 @@ pub fn handle_order(s: &mut [u8], message: &[u8], verdicts: &[u8]) -> OrderAnswe
                 return OrderAnswer::Refused(Refusal::BadVerdict);
             }
             let size = octets::get16(message, 1) as usize;
-            rules::vote(s, payment, octets::cut(message, 3, size))
+            voting::vote(s, payment, octets::cut(message, 3, size))
         }
     }
 }
@@ -69,8 +73,31 @@ pub fn handle_certificate(s: &mut [u8], message: &[u8], verdicts: &[u8]) -> Conf
     let committee = state::committee(s);
     match certificate::judge_certificate(committee.faults, message, verdicts) {
         CertificateAnswer::Refused(refusal) => ConfirmAnswer::Refused(refusal),
-        CertificateAnswer::Certifies(payment, machines) => rules::settle(s, payment, machines),
+        CertificateAnswer::Certifies(payment, machines) => settling::settle(s, payment, machines),
     }
+}
+
+// A funding order with a good verdict: the account is credited if the index is the next.
+fn credit(s: &mut [u8], funding: Funding) -> CreditAnswer
+    requires { ⌜ (length (now s) ≡ 4616) × (isFunding funding ≡ true) ⌝ }
+    ensures { λ r. ⌜ outcome (creditSaid r) (now (s .exit)) ≡ calls.credit base (now (s .entry)) funding ⌝ }
+{
+    let account = funding.account;
+    let index = funding.index;
+    if !Record::formed(s, account) {
+        return CreditAnswer::Refused(Refusal::BadState);
+    }
+    let record = Record::read(s, account);
+    let last = state::last_index(s);
+    if index.0 != last.0 + 1 {
+        return CreditAnswer::Refused(Refusal::NotNextIndex);
+    }
+    if record.balance + funding.amount > balance::HIGHEST {
+        return CreditAnswer::Refused(Refusal::BadState);
+    }
+    state::put_index(s, index);
+    record.credited(funding.amount).write(s, account);
+    CreditAnswer::Credited
 }
 
 pub fn handle_funding(s: &mut [u8], message: &[u8], verdicts: &[u8]) -> CreditAnswer
@@ -88,7 +115,7 @@ pub fn handle_funding(s: &mut [u8], message: &[u8], verdicts: &[u8]) -> CreditAn
             if !votes::all_good(verdicts) {
                 return CreditAnswer::Refused(Refusal::BadVerdict);
             }
-            rules::credit(s, order)
+            credit(s, order)
         }
     }
 }

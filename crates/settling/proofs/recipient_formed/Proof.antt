@@ -1,8 +1,8 @@
 use native.Mathlib.Omega.{arith}
 use borrow.Author.Tests.{eq-eqb, ne-eqb}
 use Rattle.records.proofs.Ranges.{payment-range}
-use Rattle.rules.proofs.recipient_formed.Statement.{statement}
-use Rattle.rules.proofs.recipient_formed.Tie as tie
+use Rattle.settling.proofs.recipient_formed.Statement.{statement}
+use Rattle.settling.proofs.recipient_formed.Tie as tie
 
 returns : tie.Need-returns
 returns c = simp (eq-eqb _ _ (c .if1 .taken))

@@ -7,8 +7,8 @@ use Rattle.records.specs.Answers.{outcome, confirmed}
 use Rattle.records.proofs.Ranges.{payment-range}
 use Rattle.records.proofs.Facts.{formed-fits, fits-paid, fits-credited}
 use borrow.Author.Needs.{needs}
-use Rattle.rules.proofs.pay.Statement.{statement}
-use Rattle.rules.proofs.pay.Tie as tie
+use Rattle.settling.proofs.pay.Statement.{statement}
+use Rattle.settling.proofs.pay.Tie as tie
 
 to-itself-requires : tie.Need-to-itself-requires
 to-itself-requires c κs = search needs

@@ -1,6 +1,6 @@
 use borrow.Author.Tests.{eq-eqb, ne-eqb}
-use Rattle.rules.proofs.to_itself.Statement.{statement}
-use Rattle.rules.proofs.to_itself.Tie as tie
+use Rattle.settling.proofs.to_itself.Statement.{statement}
+use Rattle.settling.proofs.to_itself.Tie as tie
 
 returns : tie.Need-returns
 returns c = simp (ne-eqb _ _ (c .if1 .taken))

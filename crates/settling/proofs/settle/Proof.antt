@@ -5,8 +5,8 @@ use Rattle.records.specs.Calls.{settle, settleOn}
 use Rattle.records.proofs.Ranges.{payment-range}
 use Rattle.records.proofs.Facts.{formed-fits}
 use borrow.Author.Needs.{needs}
-use Rattle.rules.proofs.settle.Statement.{statement}
-use Rattle.rules.proofs.settle.Tie as tie
+use Rattle.settling.proofs.settle.Statement.{statement}
+use Rattle.settling.proofs.settle.Tie as tie
 
 formed-requires : tie.Need-formed-requires
 formed-requires c κs = (c .before .before .before .pre .0, payment-range _ (c .before .before .before .pre .1) .sender)

@@ -9,8 +9,8 @@ use Rattle.records.specs.Answers.{outcome, voteNew}
 use Rattle.records.proofs.Ranges.{payment-range}
 use Rattle.records.proofs.Facts.{formed-fits}
 use borrow.Author.Needs.{needs}
-use Rattle.rules.proofs.vote.Statement.{statement}
-use Rattle.rules.proofs.vote.Tie as tie
+use Rattle.voting.proofs.vote.Statement.{statement}
+use Rattle.voting.proofs.vote.Tie as tie
 
 formed-requires : tie.Need-formed-requires
 formed-requires c κs = (c .before .before .before .before .pre .0, payment-range _ (c .before .before .before .before .pre .1) .sender)

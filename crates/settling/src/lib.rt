@@ -1,53 +1,20 @@
-// The rules on records: what an order, a certificate and a funding order do, once message and verdicts are good.
+// The rules of a certificate on the records that it touches.
 ghost use mathlib.Core.Path.{_≡_};
 ghost use mathlib.Core.Bool.{true, _||_};
-ghost use Prim.Native.Nat.{_≤_, _+_};
+ghost use Prim.Native.Nat.{_≤_};
 ghost use lib.Dec.{eqb};
 ghost use lib.ListN.{length};
-ghost use Rattle.wire.specs.Messages.{isPayment, isFunding};
+ghost use Rattle.wire.specs.Messages.{isPayment};
 ghost use Rattle.records.specs.Records.{Fits};
 ghost use Rattle.records.specs.States.{base, recordOf, isFormed};
-ghost use Rattle.records.specs.Answers.{outcome, orderSaid, confirmSaid, creditSaid};
+ghost use Rattle.records.specs.Answers.{outcome, confirmSaid};
 ghost use Rattle.records.specs.Calls as calls;
 use records::answers::ConfirmAnswer;
-use records::answers::CreditAnswer;
-use records::answers::OrderAnswer;
 use records::balance;
 use records::record::Record;
-use records::state;
 use wire::answers::Refusal;
 use wire::kinds::Account;
-use wire::kinds::Funding;
 use wire::kinds::Payment;
-
-// An order with a good verdict: a vote for its body, or a refusal.
-pub fn vote(s: &mut [u8], payment: Payment, body: &[u8]) -> OrderAnswer
-    requires { ⌜ (length (now s) ≡ 4616) × (isPayment payment ≡ true) × (length (now body) ≤ 57) ⌝ }
-    ensures { λ r. ⌜ outcome (orderSaid r) (now (s .exit)) ≡ calls.vote base (now (s .entry)) payment (now (body .entry)) ⌝ }
-{
-    let sender = payment.sender;
-    if !Record::formed(s, sender) {
-        return OrderAnswer::Refused(Refusal::BadState);
-    }
-    let record = Record::read(s, sender);
-    if !record.used {
-        return OrderAnswer::Refused(Refusal::SenderNotInUse);
-    }
-    if 0 < record.waiting {
-        if !octets::same(Record::pending(s, sender), body) {
-            return OrderAnswer::Refused(Refusal::AnotherPending);
-        }
-        return OrderAnswer::VoteRepeated;
-    }
-    if payment.sequence.0 != record.next.0 {
-        return OrderAnswer::Refused(Refusal::NotNextSequence);
-    }
-    if record.balance < balance::NOUGHT + payment.amount {
-        return OrderAnswer::Refused(Refusal::BalanceTooLow);
-    }
-    record.holding(body).write(s, sender);
-    OrderAnswer::VoteNew
-}
 
 // Whether a payment goes from an account to itself.
 fn to_itself(payment: Payment) -> bool
@@ -120,27 +87,4 @@ pub fn settle(s: &mut [u8], payment: Payment, votes: u64) -> ConfirmAnswer
         return ConfirmAnswer::Refused(Refusal::NotNextSequence);
     }
     pay(s, payment, votes, from)
-}
-
-// A funding order with a good verdict: the account is credited if the index is the next.
-pub fn credit(s: &mut [u8], funding: Funding) -> CreditAnswer
-    requires { ⌜ (length (now s) ≡ 4616) × (isFunding funding ≡ true) ⌝ }
-    ensures { λ r. ⌜ outcome (creditSaid r) (now (s .exit)) ≡ calls.credit base (now (s .entry)) funding ⌝ }
-{
-    let account = funding.account;
-    let index = funding.index;
-    if !Record::formed(s, account) {
-        return CreditAnswer::Refused(Refusal::BadState);
-    }
-    let record = Record::read(s, account);
-    let last = state::last_index(s);
-    if index.0 != last.0 + 1 {
-        return CreditAnswer::Refused(Refusal::NotNextIndex);
-    }
-    if record.balance + funding.amount > balance::HIGHEST {
-        return CreditAnswer::Refused(Refusal::BadState);
-    }
-    state::put_index(s, index);
-    record.credited(funding.amount).write(s, account);
-    CreditAnswer::Credited
 }

@@ -8,8 +8,8 @@ use Rattle.records.specs.States.{base, withRecord}
 use Rattle.records.proofs.Ranges.{funding-range}
 use Rattle.records.proofs.Facts.{formed-fits, fits-credited}
 use borrow.Author.Needs.{needs}
-use Rattle.rules.proofs.credit.Statement.{statement}
-use Rattle.rules.proofs.credit.Tie as tie
+use Rattle.machine.proofs.credit.Statement.{statement}
+use Rattle.machine.proofs.credit.Tie as tie
 
 formed-requires : tie.Need-formed-requires
 formed-requires c κs = (c .before .before .before .before .pre .0, funding-range _ (c .before .before .before .before .pre .1) .account)
