@@ -1,6 +1,8 @@
--- What every call on a machine keeps, and what its contract determines; the rest is what their proofs cite.
-pub mod Kept
+-- What the laws of a machine speak of, the laws, and what each contract determines; the rest is what their proofs cite.
+pub mod Meaning
+pub mod Theorems
 pub mod Determined
 pub mod RecordLaws
 pub mod Outcomes
-pub mod Limits
+pub mod Keeping
+pub mod Bounds

@@ -1,28 +1,24 @@
--- What every call on a machine keeps. Assumes nothing.
-use Prim.Native.Nat.{ℕ, _+_, _*_, _≤_, _<_}
-use mathlib.Core.Path.{_≡_, refl, subst, _∙_}
-use mathlib.Core.Bool.{Bool, true, false}
+-- The laws of a machine's calls, for any messages, verdicts and states. Assumes nothing.
+use Prim.Native.Nat.{ℕ, _≤_, _<_}
+use mathlib.Core.Path.{_≡_, refl, _∙_, ap}
 use mathlib.Core.List.{List}
 use native.Mathlib.Omega.{arith}
-use lib.ListN.{length, getD, replicate, length-take}
-use lib.Dec.{eqb, lit≤}
-use borrow.Author.Tests.{eqb-true, eqb-false, le-leb}
-use Rattle.octets.specs.Octets.{one, two, number, bytes, put, allZero}
-use Rattle.octets.proofs.Laws.{length-put, length-bytes, getD-put-out, number-put-out, cut-put-out}
+use lib.ListN.{length, getD}
+use lib.Dec.{lit≤}
+use Rattle.octets.specs.Octets.{two, number, bytes}
+use Rattle.octets.proofs.Laws.{length-put, length-bytes, getD-put-out}
 use Rattle.wire.specs.Messages.{payment, inside, funding}
-use Rattle.wire.proofs.FieldLaws.{both}
 use Rattle.records.specs.declared.record.Record.{Record}
-use Rattle.records.specs.Records.{recordAt, recordBytes, holding, paid, credited}
-use Rattle.records.specs.States.{Rules, isBaseHeader, base, stateLength, isState, place, recordOf, isFormed, withRecord, withIndex, freshState}
-use Rattle.records.specs.Answers.{Outcome}
-use Rattle.records.specs.Calls.{fresh, order, certificate, fundingOrder}
-use Rattle.invariants.specs.RecordLaws.{Formed, length-record-most, formed-stays, formed-behind, formed-record, record-formed, holding-formed, paid-formed, credited-formed, fresh-records}
+use Rattle.records.specs.Records.{freshRecord}
+use Rattle.records.specs.States.{Rules, base, recordOf, withIndex, lastIndex}
+use Rattle.records.specs.Calls.{fresh, order, certificate, fundingOrder, account}
+use Rattle.invariants.specs.RecordLaws.{holding-formed, paid-formed, credited-formed, fresh-records, record-stays}
 use Rattle.invariants.specs.Outcomes.{afterPaid, Settled, fresh-comes, order-comes, certificate-comes, funding-comes}
+use Rattle.invariants.specs.Meaning.{LeavesRefused, InRecord, WellFormed, Lays, Limited, Reached}
+use Rattle.invariants.specs.Keeping.{holding-size, paid-size, credited-size, record-leaves, header-stays, fresh-state, formed-of, withRecord-keeps, withIndex-keeps}
+use Rattle.invariants.specs.Bounds.{changed-holding, changed-credited, follows-itself, follows-index, follows-record, limited-still, fresh-record, fresh-index, follows-paid, raised, limited-more, order-low, certificate-low, funding-low, account-low}
 
 -- a refusal leaves every byte
-abbrev pub LeavesRefused : List ℕ → Outcome → Type 0
-LeavesRefused s o = (o .answer .number ≡ 0 → ⊥) → o .state ≡ s
-
 pub fresh-refused : (rules : Rules) (s : List ℕ) (f own : ℕ) → LeavesRefused s (fresh rules s f own)
 fresh-refused rules s f own = fresh-comes (LeavesRefused s) rules s f own (λ _ _ _. refl) (λ _ _ e. absurd (e refl))
 
@@ -35,30 +31,6 @@ certificate-refused rules s m verdicts =
 
 pub funding-refused : (rules : Rules) (s m verdicts : List ℕ) → LeavesRefused s (fundingOrder rules s m verdicts)
 funding-refused rules s m verdicts = funding-comes (LeavesRefused s) rules s (λ _ _. refl) m verdicts (λ _ e. absurd (e refl))
-
--- the byte at i lies in the record of an account
-abbrev pub InRecord : Rules → ℕ → ℕ → Type 0
-InRecord rules account i = (place rules account ≤ i) × (i < place rules account + 72)
-
--- a changed record has at most 57 bytes for the pending body
-holding-size : (r : Record) (body : List ℕ) → length (holding r body .pending) ≤ 57
-unfolding holding
-holding-size r body = rw (length-put (replicate 57 0) 0 body) (lit≤ tt)
-
-paid-size : (r : Record) (n : ℕ) → length (paid r n .pending) ≤ 57
-unfolding paid
-paid-size r n = lit≤ tt
-
-credited-size : (rules : Rules) (s : List ℕ) (account n : ℕ) → length (credited (recordOf rules s account) n .pending) ≤ 57
-unfolding credited recordAt
-credited-size rules s account n = simp length-take (omega arith)
-
--- a byte outside a record that is written stays
-record-leaves : (rules : Rules) (s : List ℕ) (account : ℕ) (r : Record) (i : ℕ) → length (r .pending) ≤ 57 → (InRecord rules account i → ⊥)
-    → getD (withRecord rules s account r) i 0 ≡ getD s i 0
-record-leaves rules s account r i n out =
-    let l : length (recordBytes r) ≤ 72 = length-record-most r n in
-    getD-put-out s (place rules account) (recordBytes r) i (λ p q. out (p, omega arith))
 
 -- an answer leaves the length, and every byte outside the header's index and the touched records
 pub order-leaves : (rules : Rules) (s m verdicts : List ℕ) (i : ℕ) → (InRecord rules (payment (inside m) .sender .0) i → ⊥) → getD (order rules s m verdicts .state) i 0 ≡ getD s i 0
@@ -94,68 +66,11 @@ pub funding-length : (rules : Rules) (s m verdicts : List ℕ) → length (fundi
 funding-length rules s m verdicts =
     funding-comes (λ o. length (o .state) ≡ length s) rules s (λ _. refl) m verdicts (λ _. length-put _ _ _ ∙ length-put _ _ _)
 
--- a state whose length and header are right and whose 64 records are well formed
-pub record WellFormed (rules : Rules) (s : List ℕ) : Type 0 where
-  pub state : isState rules s ≡ true
-  pub records : (account : ℕ) → account ≤ 63 → isFormed rules s account ≡ true
-
--- rules whose header has the index in its bytes 2 and 3, and is judged neither by it nor by anything from the records on
-pub record Lays (rules : Rules) : Type 0 where
-  pub room : 4 ≤ rules .records
-  pub index-free : (s : List ℕ) (index : ℕ) → rules .isHeader (withIndex s index) ≡ rules .isHeader s
-  pub records-free : (s : List ℕ) (at : ℕ) (vs : List ℕ) → rules .records ≤ at → rules .isHeader (put s at vs) ≡ rules .isHeader s
-
--- the base header reads neither bytes 2 and 3 nor any from 8 on
-header-stays : (s : List ℕ) (at : ℕ) (vs : List ℕ) → 2 ≤ at → ((j : ℕ) → at ≤ j → j < at + length vs → 4 ≤ j → j < 8 → ⊥) → isBaseHeader (put s at vs) ≡ isBaseHeader s
-unfolding isBaseHeader
-header-stays s at vs h out =
-    rw (number-put-out one s at vs 0 (λ j a b c d. omega arith), number-put-out one s at vs 1 (λ j a b c d. omega arith), cut-put-out s at vs 4 4 out)
-
 pub base-lays : Lays base
 base-lays = record {
   room = lit≤ tt;
   index-free = λ s index. header-stays s 2 (bytes two index) (lit≤ tt) (λ j a b c d. omega (arith, length-bytes two index));
   records-free = λ s at vs h. header-stays s at vs (omega arith) (λ j a b c d. omega arith);
-}
-
--- the length and the header of a fresh state are right
-fresh-state : (f own : ℕ) → f ≤ 5 → own ≤ 3 * f → isState base (freshState base f own) ≡ true
-unfolding isState isBaseHeader freshState number bytes allZero
-fresh-state f own h k = rw (le-leb f 5 h, le-leb own (3 * f) k)
-
--- a well-formed state has room for each record, and each says a well-formed record
-pub record-room : (rules : Rules) (s : List ℕ) (account : ℕ) → WellFormed rules s → account ≤ 63 → place rules account + 72 ≤ length s
-unfolding isState
-record-room rules s account w h =
-    let l : length s ≡ stateLength rules = eqb-true _ _ (both (eqb (length s) (stateLength rules)) (rules .isHeader s) (w .state) .0) in
-    omega arith
-
-pub formed-of : (rules : Rules) (s : List ℕ) (account : ℕ) → WellFormed rules s → account ≤ 63 → Formed account (recordOf rules s account)
-formed-of rules s account w h = formed-record account s (place rules account) (record-room rules s account w h) (w .records account h)
-
--- length and header after bytes were put
-put-state : (rules : Rules) (s : List ℕ) (at : ℕ) (vs : List ℕ) → rules .isHeader (put s at vs) ≡ rules .isHeader s → isState rules (put s at vs) ≡ isState rules s
-unfolding isState
-put-state rules s at vs e = rw (e, length-put s at vs)
-
--- a well-formed record in the place of another keeps a state well formed
-pub withRecord-keeps : (rules : Rules) → Lays rules → (s : List ℕ) (account : ℕ) (r : Record) → account ≤ 63 → WellFormed rules s → Formed account r → WellFormed rules (withRecord rules s account r)
-withRecord-keeps rules l s account r h w f = record {
-  state = put-state rules s (place rules account) (recordBytes r) (l .records-free s (place rules account) (recordBytes r) (omega arith)) ∙ w .state;
-  records = λ b k. go b k (eqb account b) refl;
-}
-  where
-    go : (b : ℕ) → b ≤ 63 → (t : Bool) → eqb account b ≡ t → isFormed rules (withRecord rules s account r) b ≡ true
-    go b k true e =
-        subst (λ (n : ℕ). isFormed rules (withRecord rules s account r) n ≡ true) (eqb-true account b e)
-        (record-formed account s (place rules account) r (record-room rules s account w h) f)
-    go b k false e = formed-stays rules s account b r (omega (arith, f .size)) (eqb-false account b e) ∙ w .records b k
-
--- and so does another index
-pub withIndex-keeps : (rules : Rules) → Lays rules → (s : List ℕ) (index : ℕ) → WellFormed rules s → WellFormed rules (withIndex s index)
-withIndex-keeps rules l s index w = record {
-  state = put-state rules s 2 (bytes two index) (l .index-free s index) ∙ w .state;
-  records = λ b k. formed-behind rules s 2 (bytes two index) b (omega (arith, length-bytes two index, l .room)) ∙ w .records b k;
 }
 
 -- a fresh state is well formed, and every call keeps that
@@ -190,3 +105,71 @@ funding-keeps rules l s m verdicts w =
     funding-comes (λ x. WellFormed rules (x .state)) rules s (λ _. w) m verdicts (λ v.
     withRecord-keeps rules l (withIndex s (o .index .0)) (o .account .0) _ (v .range .account) (withIndex-keeps rules l s (o .index .0) w)
     (credited-formed (o .account .0) _ (o .amount) (formed-of rules s (o .account .0) w (v .range .account)) (v .room)))
+
+-- a fresh state is limited, and every call keeps that
+pub fresh-limited : (s : List ℕ) (f own : ℕ) → fresh base s f own .answer .number ≡ 0 → Limited base (fresh base s f own .state)
+unfolding freshRecord
+fresh-limited s f own e =
+    fresh-comes (λ o. o .answer .number ≡ 0 → WellFormed base (o .state) → Limited base (o .state)) base s f own (λ n h e. absurd (omega arith))
+    (λ h k _ w. record {
+      formed = w;
+      index = omega (arith, fresh-index f own);
+      least = λ x k. rw (fresh-record f own x k) (omega arith);
+      most = λ x k. rw (fresh-record f own x k) (omega arith);
+    })
+    e (fresh-formed s f own e)
+
+pub order-limited : (rules : Rules) → Lays rules → (s m verdicts : List ℕ) → Limited rules s → Limited rules (order rules s m verdicts .state)
+order-limited rules l s m verdicts h =
+    let a = payment (inside m) .sender .0 in
+    let r = recordOf rules s a in
+    order-comes (λ o. Limited rules (o .state)) rules s (λ _. h) m verdicts (λ v.
+    limited-still rules 0 (lastIndex s) s _ h
+    (follows-record rules l 0 (lastIndex s) s s a _ (follows-itself rules 0 s (h .formed)) (v .range .sender)
+    (holding-formed a r (inside m) (formed-of rules s a (h .formed) (v .range .sender)) (v .used) (v .formed) refl (v .next)) (changed-holding 0 r (inside m)))
+    (h .index) (omega arith))
+
+pub certificate-limited : (rules : Rules) → Lays rules → (s m verdicts : List ℕ) → Limited rules s → Limited rules (certificate rules s m verdicts .state)
+certificate-limited rules l s m verdicts h =
+    let p = payment (inside m) in
+    let to = recordOf rules s (p .recipient) in
+    certificate-comes (λ o. Limited rules (o .state)) rules s (λ _. h) m verdicts
+    (λ v _. limited-more rules l s h p v _ (follows-paid rules l s h p v 0 (lit≤ tt)) (raised rules l s h p v 0))
+    (λ v _ _. limited-more rules l s h p v _ (follows-paid rules l s h p v (p .amount) (v .range .amount)) (raised rules l s h p v (p .amount)))
+    (λ v c. let k : p .recipient ≤ 63 = v .range .recipient (c .kind) in
+    let f = credited-formed (p .recipient) to (p .amount) (formed-of rules s (p .recipient) (h .formed) k) (c .room) in
+    limited-more rules l s h p v _
+    (follows-record rules l 1 (lastIndex s) s _ (p .recipient) _ (follows-paid rules l s h p v (p .amount) (v .range .amount)) k f (changed-credited to (p .amount) (v .range .amount)))
+    (ap (λ (r : Record). r .next .0) (record-stays rules _ (p .recipient) (p .sender .0) _ (omega (arith, f .size)) (c .other)) ∙ raised rules l s h p v (p .amount)))
+
+pub funding-limited : (rules : Rules) → Lays rules → (s m verdicts : List ℕ) → Limited rules s → Limited rules (fundingOrder rules s m verdicts .state)
+funding-limited rules l s m verdicts h =
+    let o = funding m in
+    let a = o .account .0 in
+    let i = o .index .0 in
+    let r = recordOf rules s a in
+    funding-comes (λ x. Limited rules (x .state)) rules s (λ _. h) m verdicts (λ v.
+    limited-still rules 1 i s _ h
+    (follows-record rules l 1 i s (withIndex s i) a _ (follows-index rules l 1 s i (h .formed) (v .range .index)) (v .range .account)
+    (credited-formed a r (o .amount) (formed-of rules s a (h .formed) (v .range .account)) (v .room)) (changed-credited r (o .amount) (v .range .amount)))
+    (v .range .index) (omega (arith, v .index)))
+
+-- so does every state that a machine comes to
+pub reached-limited : (s : List ℕ) → Reached s → Limited base s
+reached-limited s (Reached.start t f own e) = fresh-limited t f own e
+reached-limited s (Reached.ordered {s = t} r m verdicts) = order-limited base base-lays t m verdicts (reached-limited t r)
+reached-limited s (Reached.certified {s = t} r m verdicts) = certificate-limited base base-lays t m verdicts (reached-limited t r)
+reached-limited s (Reached.funded {s = t} r m verdicts) = funding-limited base base-lays t m verdicts (reached-limited t r)
+
+-- so 16 is never answered in such a state
+pub order-never-16 : (s m verdicts : List ℕ) → Reached s → order base s m verdicts .answer .number ≡ 16 → ⊥
+order-never-16 s m verdicts r e = omega (arith, order-low s m verdicts (reached-limited s r))
+
+pub certificate-never-16 : (s m verdicts : List ℕ) → Reached s → certificate base s m verdicts .answer .number ≡ 16 → ⊥
+certificate-never-16 s m verdicts r e = omega (arith, certificate-low s m verdicts (reached-limited s r))
+
+pub funding-never-16 : (s m verdicts : List ℕ) → Reached s → fundingOrder base s m verdicts .answer .number ≡ 16 → ⊥
+funding-never-16 s m verdicts r e = omega (arith, funding-low s m verdicts (reached-limited s r))
+
+pub account-never-16 : (s : List ℕ) (a : ℕ) → Reached s → account base s a .answer .number ≡ 16 → ⊥
+account-never-16 s a r e = omega (arith, account-low s a (reached-limited s r))
