@@ -3,10 +3,10 @@ use Prim.Native.Nat.{ℕ, _+_, _*_, _≤_, _<_, zero, suc}
 use mathlib.Core.Path.{_≡_}
 use mathlib.Core.Bool.{true}
 use mathlib.Core.List.{List}
-use Rattle.octets.specs.Octets.{number, put}
+use Rattle.octets.specs.Octets.{put}
 use Rattle.records.specs.States.{Rules, base, isState, place, recordOf, isFormed, withIndex, lastIndex}
 use Rattle.records.specs.Answers.{Outcome}
-use Rattle.records.specs.Calls.{fresh, order, certificate, fundingOrder, account}
+use Rattle.records.specs.Calls.{fresh, order, certificate, fundingOrder}
 use Rattle.records.specs.Balances.{nought}
 
 -- a refusal leaves every byte

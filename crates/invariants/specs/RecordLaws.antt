@@ -9,12 +9,12 @@ use native.Mathlib.Nat.{two-pow-succ, zero-add}
 use lib.ListN.{length, take, drop, replicate, length-append, length-replicate, length-drop, replicate-append-replicate}
 use lib.Seq.{take-at, drop-at, getD-take, getD-drop, take-take, drop-drop, take-all, drop-append-le, sets-eq}
 use lib.IntN.{pos, negsuc}
-use lib.Dec.{ltb, leb, eqb}
-use borrow.Author.Tests.{ltb-true, ltb-false, lt-ltb, le-ltb, leb-true, le-leb, eqb-true, eq-eqb}
+use lib.Dec.{ltb, eqb}
+use borrow.Author.Tests.{ltb-true, ltb-false, lt-ltb, le-ltb, le-leb, eqb-true, eq-eqb}
 use mir.Syntax.{w64}
 use mir.Val.{toZ}
 use Rattle.octets.specs.Octets.{one, two, eight, number, bytes, cut, put, allZero}
-use Rattle.octets.proofs.Laws.{length-bytes, length-put, number-bytes, number-lt, cut-put, cut-put-out}
+use Rattle.octets.proofs.Laws.{length-put, number-bytes, number-lt, cut-put, cut-put-out}
 use Rattle.wire.specs.Messages.{payment}
 use Rattle.wire.specs.Readers.{isBody, held}
 use Rattle.wire.proofs.FieldLaws.{Bytes, both, bytes-number, bytes-cut, cut-join, length-cut}
@@ -23,6 +23,7 @@ use Rattle.records.specs.declared.record.Record.{Record}
 use Rattle.records.specs.Balances.{nought, highest, lift, lower, signed}
 use Rattle.records.specs.Records.{bit, recordAt, headBytes, recordBytes, isPending, inRange, isRecord, Fits, freshRecord, holding, paid, credited}
 use Rattle.records.specs.States.{Rules, base, place, recordOf, isFormed, withRecord, freshState}
+use Rattle.records.proofs.Facts.{length-head, in-range, fits-holding, fits-paid, fits-credited}
 
 -- a balance written is read back, one read is written back, and the eight bytes are its two's complement
 pub lift-lower : (l : ℕ) → l ≤ highest → lift (lower l) ≡ l
@@ -41,11 +42,6 @@ two's w h k = go (ltb w (2 ^ 63)) refl
     go false e =
         let p : 2 ^ 63 ≤ w = ltb-false w (2 ^ 63) e in
         rw (e, lt-ltb (lift w) nought (omega arith)) (ap negsuc (omega arith))
-
--- the numbers of a record take twelve bytes
-length-head : (used : Bool) (waiting next balance : ℕ) → length (headBytes used waiting next balance) ≡ 12
-unfolding headBytes
-length-head used waiting next balance = simp (length-append, length-bytes)
 
 -- a record takes 15 bytes more than its pending body
 length-written : (r : Record) → length (recordBytes r) ≡ 12 + (length (r .pending) + 3)
@@ -88,15 +84,6 @@ and-same : (a b c : Bool) → (a ≡ true → b ≡ c) → (a && b) ≡ (a && c)
 and-same true b c h = h refl
 and-same false b c h = refl
 
--- what the test on a record's numbers says
-range : (u w n b : ℕ) → inRange u w n b ≡ true → (u ≤ 1) × (w ≤ 57) × (n ≤ 4_096) × (b ≤ highest)
-unfolding inRange
-range u w n b e =
-    let p = both (leb u 1) _ e in
-    let q = both (leb w 57) _ (p .1) in
-    let t = both (leb n 4_096) _ (q .1) in
-    (leb-true _ _ (p .0), leb-true _ _ (q .0), leb-true _ _ (t .0), leb-true _ _ (t .1))
-
 -- a record is read from its 72 bytes alone
 pub record-window : (s : List ℕ) (at : ℕ) → recordAt s at ≡ recordAt (window s at) 0
 unfolding recordAt
@@ -123,7 +110,7 @@ formed-window account s at =
       take-take 72 72 (drop at s) (omega arith),
     )
     (and-same (inRange (number one s at) n (number two s (at + 2)) (lift (number eight s (at + 4)))) _ _
-    (λ t. let m : n ≤ 57 = range _ n _ _ t .1 in
+    (λ t. let m : n ≤ 57 = in-range _ n _ _ t .waiting-most in
     let f : at + (12 + n) ≡ at + 12 + n = omega arith in
     let p : cut w 12 n ≡ cut s (at + 12) n = cut-window s at 12 n (omega arith) in
     let z : cut w (12 + n) (60 - n) ≡ cut s (at + 12 + n) (60 - n) = rw f at (cut-window s at (12 + n) (60 - n) (omega arith)) in
@@ -233,15 +220,15 @@ sound account w l e =
     let p = both (inRange (number one w 0) n (number two w 2) (lift (number eight w 4))) _ e in
     let q = both (isPending account (number two w 2) (cut w 12 n)) _ (p .1) in
     let t = both (allZero (cut w (12 + n) (60 - n))) _ (q .1) in
-    let g = range _ _ _ _ (p .0) in
-    let z = both (allZero (drop n (cut w 12 57))) (allZero (cut w 69 3)) (sym (zeros-append _ _) ∙ rw (filling w n l (g .1)) at (t .0)) in
+    let g = in-range _ _ _ _ (p .0) in
+    let z = both (allZero (drop n (cut w 12 57))) (allZero (cut w 69 3)) (sym (zeros-append _ _) ∙ rw (filling w n l (g .waiting-most)) at (t .0)) in
     let c : length (cut w 69 3) ≡ 3 = length-cut w 69 3 (omega arith) in
     record {
-      used = g .0;
+      used = g .used-most;
       formed = record {
-        fits = record { waiting = g .1; next = g .2; balance = g .3 };
+        fits = record { waiting = g .waiting-most; next = g .next-most; balance = g .balance-most };
         size = length-cut w 12 57 (omega arith);
-        pending = rw (take-take n 57 (drop 12 w) (g .1)) (q .0);
+        pending = rw (take-take n 57 (drop 12 w) (g .waiting-most)) (q .0);
         filled = z .0;
         unused = unused-fresh w l (t .1);
       };
@@ -276,10 +263,10 @@ unused-zeros r h = go (r .used) refl
     go false e = rw (h e) fresh-zeros
 
 -- numbers in range pass the test
-in-range : (used : Bool) (w n b : ℕ) → w ≤ 57 → n ≤ 4_096 → b ≤ highest → inRange (bit used) w n b ≡ true
+range-tests : (used : Bool) (w n b : ℕ) → w ≤ 57 → n ≤ 4_096 → b ≤ highest → inRange (bit used) w n b ≡ true
 unfolding inRange
-in-range true w n b p q t = rw (le-leb _ _ p, le-leb _ _ q, le-leb _ _ t)
-in-range false w n b p q t = rw (le-leb _ _ p, le-leb _ _ q, le-leb _ _ t)
+range-tests true w n b p q t = rw (le-leb _ _ p, le-leb _ _ q, le-leb _ _ t)
+range-tests false w n b p q t = rw (le-leb _ _ p, le-leb _ _ q, le-leb _ _ t)
 
 -- the bytes of a well-formed record are well formed
 encode-formed : (account : ℕ) (r : Record) → Formed account r → isRecord account (recordBytes r) 0 ≡ true
@@ -301,7 +288,7 @@ encode-formed account r f =
       waiting,
       next,
       balance,
-      in-range (r .used) (r .waiting) (r .next .0) (r .balance) (f .fits .waiting) (f .fits .next) (f .fits .balance),
+      range-tests (r .used) (r .waiting) (r .next .0) (r .balance) (f .fits .waiting) (f .fits .next) (f .fits .balance),
       body,
       f .pending,
       filled,
@@ -366,7 +353,7 @@ holding-formed account r body f u b p q =
     let l = body-laid body (both _ _ b .0) in
     let n : length (replicate {A = ℕ} 57 0) ≡ 57 = refl in
     record {
-      fits = record { waiting = l .most; next = f .fits .next; balance = f .fits .balance };
+      fits = fits-holding r body (f .fits) (l .most);
       size = length-put (replicate 57 0) 0 body;
       pending = rw (cut-put (replicate 57 0) 0 body (omega arith)) (pending-body account (r .next .0) body b p q);
       filled = rw (held-rest 57 body (l .most)) (zeros-drop (length body) (replicate 57 0) refl);
@@ -376,7 +363,7 @@ holding-formed account r body f u b p q =
 pub paid-formed : (account : ℕ) (r : Record) (n : ℕ) → Formed account r → r .next .0 ≤ 4_095 → Formed account (paid r n)
 unfolding paid isPending allZero
 paid-formed account r n f h = record {
-  fits = record { waiting = omega arith; next = omega arith; balance = omega (arith, f .fits .balance) };
+  fits = fits-paid r n (f .fits) h;
   size = refl;
   pending = refl;
   filled = refl;
@@ -386,7 +373,7 @@ paid-formed account r n f h = record {
 pub credited-formed : (account : ℕ) (r : Record) (n : ℕ) → Formed account r → r .balance + n ≤ highest → Formed account (credited r n)
 unfolding credited
 credited-formed account r n f h = record {
-  fits = record { waiting = f .fits .waiting; next = f .fits .next; balance = h };
+  fits = fits-credited r n (f .fits) h;
   size = f .size;
   pending = f .pending;
   filled = f .filled;

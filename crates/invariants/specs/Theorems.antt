@@ -5,7 +5,7 @@ use mathlib.Core.List.{List}
 use native.Mathlib.Omega.{arith}
 use lib.ListN.{length, getD}
 use lib.Dec.{lit≤}
-use Rattle.octets.specs.Octets.{two, number, bytes}
+use Rattle.octets.specs.Octets.{two, bytes}
 use Rattle.octets.proofs.Laws.{length-put, length-bytes, getD-put-out}
 use Rattle.wire.specs.Messages.{payment, inside, funding}
 use Rattle.records.specs.declared.record.Record.{Record}
@@ -66,6 +66,7 @@ pub funding-length : (rules : Rules) (s m verdicts : List ℕ) → length (fundi
 funding-length rules s m verdicts =
     funding-comes (λ o. length (o .state) ≡ length s) rules s (λ _. refl) m verdicts (λ _. length-put _ _ _ ∙ length-put _ _ _)
 
+-- the rules of 01 are such rules
 pub base-lays : Lays base
 base-lays = record {
   room = lit≤ tt;
@@ -154,7 +155,7 @@ funding-limited rules l s m verdicts h =
     (credited-formed a r (o .amount) (formed-of rules s a (h .formed) (v .range .account)) (v .room)) (changed-credited r (o .amount) (v .range .amount)))
     (v .range .index) (omega (arith, v .index)))
 
--- so does every state that a machine comes to
+-- every state that a machine comes to is limited
 pub reached-limited : (s : List ℕ) → Reached s → Limited base s
 reached-limited s (Reached.start t f own e) = fresh-limited t f own e
 reached-limited s (Reached.ordered {s = t} r m verdicts) = order-limited base base-lays t m verdicts (reached-limited t r)
