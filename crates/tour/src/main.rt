@@ -1,5 +1,6 @@
-// Writes messages, reads them back, and shows what is refused and why.
+// Writes messages, reads them back, runs a settlement machine, and shows what is refused and why.
 mod say;
+mod yard;
 
 use messages::body;
 use messages::certificate;
@@ -161,4 +162,8 @@ fn main() {
     ordered();
     say::text(b"A certificate, f = 1, votes of machines 0, 1 and 2\n");
     certificates();
+    say::text(b"A settlement machine, number 0, f = 1\n");
+    yard::morning();
+    say::text(b"Another one, to which the certificate comes before its funding\n");
+    yard::late_funding();
 }

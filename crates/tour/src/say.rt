@@ -10,9 +10,13 @@ pub(crate) fn text(t: &[u8]) {
     io::write_all(STDOUT_FILENO, t);
 }
 
-pub(crate) fn count(before: &[u8], n: u64) {
+pub(crate) fn number(before: &[u8], n: u64) {
     text(before);
     io::print_decimal(STDOUT_FILENO, n);
+}
+
+pub(crate) fn count(before: &[u8], n: u64) {
+    number(before, n);
     text(b"\n");
 }
 
@@ -24,6 +28,17 @@ pub(crate) fn front(s: &[u8], n: usize) -> &[u8]
         return octets::cut(s, 0, n);
     }
     s
+}
+
+// The n bytes from at, or none where there are fewer.
+pub(crate) fn part(s: &[u8], at: usize, n: usize) -> &[u8] {
+    if s.len() < n {
+        return octets::cut(s, 0, 0);
+    }
+    if s.len() - n < at {
+        return octets::cut(s, 0, 0);
+    }
+    octets::cut(s, at, n)
 }
 
 fn digits(s: &[u8]) {
@@ -76,6 +91,12 @@ fn reason(number: u64) {
         5 => text(b": no such machine\n"),
         6 => text(b": machines repeat or do not rise\n"),
         7 => text(b": too few votes\n"),
+        8 => text(b": the sender is not in use\n"),
+        9 => text(b": another body is pending\n"),
+        10 => text(b": not the next sequence\n"),
+        11 => text(b": the balance is too low\n"),
+        12 => text(b": not the next funding index\n"),
+        16 => text(b": the state is not well formed\n"),
         18 => text(b": the output is too small\n"),
         _ => text(b"\n"),
     }

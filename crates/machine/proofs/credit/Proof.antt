@@ -1,10 +1,9 @@
 use Rattle.octets.proofs.Laws.{length-put}
 use native.Mathlib.Omega.{arith}
-use mathlib.Core.Path.{_≡_, sym, ap, _∙_}
+use mathlib.Core.Path.{sym, ap, _∙_}
 use borrow.Author.Tests.{not-true, not-false, eq-eqb, ne-eqb, lt-leb, le-leb}
 use Rattle.records.specs.Calls.{credit, creditOn}
 use Rattle.records.specs.Answers.{outcome, done}
-use Rattle.records.specs.States.{base, withRecord}
 use Rattle.records.proofs.Ranges.{funding-range}
 use Rattle.records.proofs.Facts.{formed-fits, fits-credited}
 use borrow.Author.Needs.{needs}

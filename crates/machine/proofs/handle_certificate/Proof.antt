@@ -1,17 +1,13 @@
 use Rattle.machine.proofs.Passing.{passed-on, goes-on, judged-by}
-use native.Mathlib.Omega.{arith}
-use mathlib.Core.Path.{_≡_, sym, ap, _∙_}
-use Prim.Native.Nat.{ℕ}
+use mathlib.Core.Path.{sym, ap, _∙_}
 use borrow.Author.Tests.{not-true, not-false}
 use Rattle.wire.specs.Messages.{payment, inside}
-use Rattle.wire.specs.Votes.{signersIn, committee}
-use Rattle.wire.specs.Readers.{judged, judgedBy}
+use Rattle.wire.specs.Votes.{committee}
 use Rattle.wire.specs.declared.kinds.Payment.{Payment}
 use Rattle.messages.proofs.Told.{judged-told}
 use Rattle.records.specs.Calls.{certificate, settle}
 use Rattle.records.specs.States.{base}
-use Rattle.records.proofs.Facts.{state-length, state-faults}
-use Rattle.machine.proofs.Passing.{passed-on, goes-on}
+use Rattle.records.proofs.Facts.{state-length}
 use borrow.Author.Needs.{needs}
 use Rattle.machine.proofs.handle_certificate.Statement.{statement}
 use Rattle.machine.proofs.handle_certificate.Tie as tie

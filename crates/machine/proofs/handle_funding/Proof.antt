@@ -1,6 +1,5 @@
-use mathlib.Core.Path.{_≡_, sym, ap, _∙_}
+use mathlib.Core.Path.{sym, ap, _∙_}
 use borrow.Author.Tests.{not-true, not-false, eq-eqb, ne-eqb}
-use Rattle.wire.specs.Messages.{funding, isFunding}
 use Rattle.messages.proofs.Told.{funding-told}
 use Rattle.records.specs.Calls.{fundingOrder, credit}
 use Rattle.records.specs.States.{base}

@@ -1,6 +1,5 @@
 use Rattle.machine.proofs.Passing.{fit-bytes}
-use native.Mathlib.Omega.{arith}
-use mathlib.Core.Path.{_≡_, sym, ap, _∙_}
+use mathlib.Core.Path.{sym, ap, _∙_}
 use borrow.Author.Tests.{not-true, not-false, eq-eqb, ne-eqb, leb-true}
 use Rattle.records.specs.Answers.{outcome, done}
 use Rattle.records.specs.Calls.{fresh}

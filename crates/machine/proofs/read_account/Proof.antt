@@ -6,7 +6,7 @@ use mir.Facts.{toZ-ofZ}
 use lib.IntN.{ℤ}
 use Rattle.records.proofs.Balances.{signed-fits}
 use Rattle.machine.proofs.Passing.{shown-as}
-use mathlib.Core.Path.{_≡_, sym, ap, _∙_}
+use mathlib.Core.Path.{sym, ap, _∙_}
 use borrow.Author.Tests.{not-true, not-false, leb-true}
 use Rattle.records.specs.Calls.{account}
 use Rattle.records.proofs.Facts.{state-length, formed-fits}

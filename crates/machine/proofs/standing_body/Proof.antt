@@ -2,9 +2,9 @@ use Rattle.octets.specs.Octets.{cut}
 use Rattle.records.proofs.Ranges.{payment-range}
 use Rattle.machine.proofs.Passing.{standing-for}
 use native.Mathlib.Omega.{arith}
-use mathlib.Core.Path.{_≡_, sym, ap, _∙_}
+use mathlib.Core.Path.{sym, ap, _∙_}
 use borrow.Author.Tests.{not-true, not-false, lt-ltb, le-ltb}
-use Rattle.wire.specs.Messages.{payment, inside}
+use Rattle.wire.specs.Messages.{payment}
 use Rattle.messages.proofs.Onward.{order-refused}
 use Rattle.messages.proofs.Told.{order-told, order-facts}
 use Rattle.records.specs.Calls.{standing, standingOn}

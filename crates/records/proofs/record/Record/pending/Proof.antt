@@ -1,5 +1,4 @@
 use native.Mathlib.Omega.{arith}
-use mathlib.Core.Path.{_≡_, sym, ap, _∙_}
 use Rattle.records.proofs.Facts.{pending-fits}
 use borrow.Author.Needs.{needs}
 use Rattle.records.proofs.record.Record.pending.Statement.{statement}

@@ -1,6 +1,5 @@
-use native.Mathlib.Omega.{arith}
-use mathlib.Core.Path.{_≡_, ap, sym, _∙_}
-use Rattle.octets.specs.Octets.{number, cut}
+use mathlib.Core.Path.{_∙_}
+use Rattle.octets.specs.Octets.{cut}
 use Rattle.octets.proofs.Laws.{put-all}
 use Rattle.records.specs.Records.{recordAt}
 use borrow.Author.Needs.{needs}
