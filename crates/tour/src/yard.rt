@@ -34,11 +34,45 @@ fn payment_of(amount: u64, sequence: u64) -> Payment {
     }
 }
 
-fn fresh(state: &mut [u8]) {
-    match machine::make_fresh(state, Committee::of(1), Machine(0)) {
+fn show_fresh(answer: FreshAnswer) {
+    match answer {
         FreshAnswer::Made => say::text(b"    made\n"),
         FreshAnswer::Refused(refusal) => say::refused(refusal),
     }
+}
+
+fn show_vote(answer: OrderAnswer) {
+    match answer {
+        OrderAnswer::VoteNew => say::text(b"    vote, new\n"),
+        OrderAnswer::VoteRepeated => say::text(b"    vote, repeated\n"),
+        OrderAnswer::Refused(refusal) => say::refused(refusal),
+    }
+}
+
+fn show_confirmed(answer: ConfirmAnswer) {
+    match answer {
+        ConfirmAnswer::Confirmed(votes) => say::count(b"    confirmed, votes: ", votes),
+        ConfirmAnswer::Already(votes) => say::count(b"    already, votes: ", votes),
+        ConfirmAnswer::Refused(refusal) => say::refused(refusal),
+    }
+}
+
+fn show_credited(answer: CreditAnswer) {
+    match answer {
+        CreditAnswer::Credited => say::text(b"    credited\n"),
+        CreditAnswer::Refused(refusal) => say::refused(refusal),
+    }
+}
+
+fn show_account(answer: AccountAnswer) {
+    match answer {
+        AccountAnswer::Shows(shown) => reading(shown),
+        AccountAnswer::Refused(refusal) => say::refused(refusal),
+    }
+}
+
+fn fresh(state: &mut [u8]) {
+    show_fresh(machine::make_fresh(state, Committee::of(1), Machine(0)));
 }
 
 // An order of account 2 to pay account 7.
@@ -46,11 +80,7 @@ fn order(state: &mut [u8], amount: u64, sequence: u64) {
     let signature = [7u8; 64];
     let mut space = [0u8; 127];
     let n = made(write::write_order(&mut space, payment_of(amount, sequence), b"", &signature));
-    match machine::handle_order(state, say::front(&space, n), b"\x01") {
-        OrderAnswer::VoteNew => say::text(b"    vote, new\n"),
-        OrderAnswer::VoteRepeated => say::text(b"    vote, repeated\n"),
-        OrderAnswer::Refused(refusal) => say::refused(refusal),
-    }
+    show_vote(machine::handle_order(state, say::front(&space, n), b"\x01"));
 }
 
 // The votes of machines 0, 1 and 2.
@@ -69,11 +99,7 @@ fn certificate(state: &mut [u8]) {
     let run = votes();
     let mut space = [0u8; 512];
     let n = made(write::write_certificate(1, &mut space, say::front(&body, length), &run));
-    match machine::handle_certificate(state, say::front(&space, n), b"\x01\x01\x01") {
-        ConfirmAnswer::Confirmed(count) => say::count(b"    confirmed, votes: ", count),
-        ConfirmAnswer::Already(count) => say::count(b"    already, votes: ", count),
-        ConfirmAnswer::Refused(refusal) => say::refused(refusal),
-    }
+    show_confirmed(machine::handle_certificate(state, say::front(&space, n), b"\x01\x01\x01"));
 }
 
 // A funding order of 2,000 for account 2.
@@ -85,10 +111,7 @@ fn funding(state: &mut [u8]) {
     };
     let mut space = [0u8; 16];
     let n = made(write::write_funding(&mut space, order));
-    match machine::handle_funding(state, say::front(&space, n), b"\x01") {
-        CreditAnswer::Credited => say::text(b"    credited\n"),
-        CreditAnswer::Refused(refusal) => say::refused(refusal),
-    }
+    show_credited(machine::handle_funding(state, say::front(&space, n), b"\x01"));
 }
 
 fn reading(shown: Reading) {
@@ -105,10 +128,7 @@ fn reading(shown: Reading) {
 fn account(state: &[u8], number: u64) {
     say::number(b"    account ", number);
     say::text(b": ");
-    match machine::read_account(state, Account(number)) {
-        AccountAnswer::Shows(shown) => reading(shown),
-        AccountAnswer::Refused(refusal) => say::refused(refusal),
-    }
+    show_account(machine::read_account(state, Account(number)));
 }
 
 // Where the records of accounts 2 and 7 stand, and the header before all.
