@@ -1,4 +1,3 @@
 pub mod Onward
 pub mod Passing
-pub mod Written
 pub mod Told

@@ -1,7 +1,6 @@
-// The messages of document 01: their readers and writers, the judged certificate and the stretch that votes cover.
+// The messages of document 01: their readers, the judged certificate and the stretch that votes cover.
 pub mod body;
 pub mod certificate;
 pub mod covered;
 pub mod funding;
 pub mod order;
-pub mod write;

@@ -13,7 +13,7 @@ use Rattle.wire.specs.Refusals.{Said, gives, paymentValues, fundingValues}
 use Rattle.wire.specs.Writers.{Written, unwritten, writes}
 use Rattle.wire.specs.declared.kinds.Payment.{Payment}
 use Rattle.wire.specs.declared.kinds.Funding.{Funding}
-use Rattle.messages.proofs.Written.{writes-room}
+use Rattle.writing.proofs.Written.{writes-room}
 
 -- an outcome that is no refusal passed the test before it
 pub through : {A : Type 0} (said : A → ℕ) (t : Bool) (failed rest : A) → 0 < said failed → said (need t failed rest) ≡ 0 → (t ≡ true) × (said rest ≡ 0)

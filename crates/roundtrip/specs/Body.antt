@@ -18,7 +18,7 @@ use Rattle.wire.specs.Writers.{unwritten, writeBody}
 use Rattle.wire.specs.declared.kinds.Payment.{Payment}
 use Rattle.wire.proofs.FieldLaws.{Bytes, ends-laid, both, number-written, bytes-number, cut-join, drop-field, drop-sized, ends-sized, ends-last}
 use Rattle.wire.proofs.Laid.{BodyLaid, body-laid, note-fits}
-use Rattle.messages.proofs.Written.{length-body, PaymentFits, payment-fits}
+use Rattle.writing.proofs.Written.{length-body, PaymentFits, payment-fits}
 use Rattle.messages.proofs.Told.{payment-same}
 use Rattle.roundtrip.specs.Answers.{through, said, told, wrote, Wrote, has-room, comes-to-write}
 

@@ -18,7 +18,7 @@ use Rattle.wire.specs.Readers.{readCertificateOf, readCertificate, judgedBy, ju
 use Rattle.wire.specs.Writers.{unwritten, writeVotedOf, writeCertificate}
 use Rattle.wire.proofs.FieldLaws.{Bytes, size-written, drop-field, length-field, ends-laid, ends-field}
 use Rattle.wire.proofs.Laid.{BodyLaid, body-laid, Votes, votes-length, CertificateLaid, certificate-laid}
-use Rattle.messages.proofs.Written.{length-certificate}
+use Rattle.writing.proofs.Written.{length-certificate}
 use Rattle.roundtrip.specs.Answers.{through, said, told, wrote, Wrote, has-room, comes-to-write}
 use Rattle.roundtrip.specs.VoteLaws.{votes-written, votes-pass, vote-run-written, length-vote-run, votes-again, length-signers, signers-written, field-value}
 use Rattle.roundtrip.specs.Voters.{voters-few}

@@ -1,4 +1,4 @@
--- Document 01, How tight the promises are: two outcomes that a contract of wire or messages allows are equal. Each theorem has the name of its
+-- Document 01, How tight the promises are: two outcomes that a contract of wire, messages or writing allows are equal. Each theorem has the name of its
 -- function and takes two results that meet the function's contract. Assumes nothing.
 use Prim.Native.Nat.{ℕ, zero, suc}
 use mathlib.Core.Path.{_≡_, refl, sym, ap, _∙_}

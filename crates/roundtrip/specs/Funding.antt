@@ -16,7 +16,7 @@ use Rattle.wire.specs.Writers.{unwritten, writeFunding}
 use Rattle.wire.specs.declared.kinds.Funding.{Funding}
 use Rattle.wire.proofs.FieldLaws.{Bytes, ends-laid, number-written, bytes-number, drop-sized, ends-sized, ends-last}
 use Rattle.wire.proofs.Laid.{FundingLaid, funding-laid}
-use Rattle.messages.proofs.Written.{FundingFits, funding-fits}
+use Rattle.writing.proofs.Written.{FundingFits, funding-fits}
 use Rattle.messages.proofs.Told.{funding-same}
 use Rattle.roundtrip.specs.Answers.{through, said, told, wrote, Wrote, has-room, comes-to-write}
 

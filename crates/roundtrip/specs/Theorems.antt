@@ -21,7 +21,7 @@ use Rattle.wire.specs.declared.kinds.Payment.{Payment}
 use Rattle.wire.specs.declared.kinds.Funding.{Funding}
 use Rattle.wire.proofs.FieldLaws.{Bytes, both}
 use Rattle.wire.proofs.Laid.{note-fits, signature-fits}
-use Rattle.messages.proofs.Written.{length-body, length-order, length-funding}
+use Rattle.writing.proofs.Written.{length-body, length-order, length-funding}
 use Rattle.roundtrip.specs.Answers.{said, told, Wrote, wrote-size}
 use Rattle.roundtrip.specs.Body.{body-wrote, body-read-back, payment-given, body-again}
 use Rattle.roundtrip.specs.Order.{order-wrote, order-read-back, order-given, order-again}

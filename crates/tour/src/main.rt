@@ -7,7 +7,6 @@ use messages::certificate;
 use messages::covered;
 use messages::funding;
 use messages::order;
-use messages::write;
 use wire::answers::BodyAnswer;
 use wire::answers::CertificateAnswer;
 use wire::answers::FundingAnswer;
@@ -67,7 +66,7 @@ fn show_certificate(answer: CertificateAnswer) {
 // A body is written and read, and so is its first half.
 fn whole_and_half() {
     let mut space = [0u8; 57];
-    let n = made(write::write_body(&mut space, payment_of(1500), b""));
+    let n = made(writing::write_body(&mut space, payment_of(1500), b""));
     let message = say::front(&space, n);
     say::hex(message);
     show_payment(body::read_payment(message));
@@ -78,10 +77,10 @@ fn whole_and_half() {
 fn unwritten() {
     say::text(b"  an amount of 0\n");
     let mut space = [0u8; 57];
-    made(write::write_body(&mut space, payment_of(0), b""));
+    made(writing::write_body(&mut space, payment_of(0), b""));
     say::text(b"  an output of 24 bytes\n");
     let mut small = [0u8; 24];
-    made(write::write_body(&mut small, payment_of(1500), b""));
+    made(writing::write_body(&mut small, payment_of(1500), b""));
 }
 
 fn funded() {
@@ -91,7 +90,7 @@ fn funded() {
         amount: 2000,
     };
     let mut space = [0u8; 16];
-    let n = made(write::write_funding(&mut space, order));
+    let n = made(writing::write_funding(&mut space, order));
     let message = say::front(&space, n);
     say::hex(message);
     show_funding(funding::read_funding(message));
@@ -100,7 +99,7 @@ fn funded() {
 fn ordered() {
     let signature = [7u8; 64];
     let mut space = [0u8; 127];
-    let n = made(write::write_order(&mut space, payment_of(1500), b"car 12", &signature));
+    let n = made(writing::write_order(&mut space, payment_of(1500), b"car 12", &signature));
     let message = say::front(&space, n);
     let read = order::read_order(message);
     let answer = read.answer;
@@ -123,10 +122,10 @@ fn run_of(a: u8, b: u8, c: u8) -> [u8; 195] {
 // A certificate with f = 1 and the first `size` bytes of these votes is written and judged.
 fn certify(a: u8, b: u8, c: u8, size: usize, verdicts: &[u8]) {
     let mut body = [0u8; 57];
-    let length = made(write::write_body(&mut body, payment_of(1500), b""));
+    let length = made(writing::write_body(&mut body, payment_of(1500), b""));
     let run = run_of(a, b, c);
     let mut space = [0u8; 512];
-    let n = made(write::write_certificate(
+    let n = made(writing::write_certificate(
         1,
         &mut space,
         say::front(&body, length),

@@ -1,6 +1,5 @@
 // One settlement machine, number 0 of four, over a morning.
 use crate::say;
-use messages::write;
 use records::answers::AccountAnswer;
 use records::answers::ConfirmAnswer;
 use records::answers::CreditAnswer;
@@ -79,7 +78,7 @@ fn fresh(state: &mut [u8]) {
 fn order(state: &mut [u8], amount: u64, sequence: u64) {
     let signature = [7u8; 64];
     let mut space = [0u8; 127];
-    let n = made(write::write_order(&mut space, payment_of(amount, sequence), b"", &signature));
+    let n = made(writing::write_order(&mut space, payment_of(amount, sequence), b"", &signature));
     show_vote(machine::handle_order(state, say::front(&space, n), b"\x01"));
 }
 
@@ -95,10 +94,10 @@ fn votes() -> [u8; 195] {
 // Their certificate for 1,500 of account 2 to account 7.
 fn certificate(state: &mut [u8]) {
     let mut body = [0u8; 57];
-    let length = made(write::write_body(&mut body, payment_of(1500, 0), b""));
+    let length = made(writing::write_body(&mut body, payment_of(1500, 0), b""));
     let run = votes();
     let mut space = [0u8; 512];
-    let n = made(write::write_certificate(1, &mut space, say::front(&body, length), &run));
+    let n = made(writing::write_certificate(1, &mut space, say::front(&body, length), &run));
     show_confirmed(machine::handle_certificate(state, say::front(&space, n), b"\x01\x01\x01"));
 }
 
@@ -110,7 +109,7 @@ fn funding(state: &mut [u8]) {
         amount: 2000,
     };
     let mut space = [0u8; 16];
-    let n = made(write::write_funding(&mut space, order));
+    let n = made(writing::write_funding(&mut space, order));
     show_credited(machine::handle_funding(state, say::front(&space, n), b"\x01"));
 }
 

@@ -38,6 +38,7 @@ pub fn vote(s: &mut [u8], payment: Payment, body: &[u8]) -> OrderAnswer
     if record.balance < balance::NOUGHT + payment.amount {
         return OrderAnswer::Refused(Refusal::BalanceTooLow);
     }
-    record.holding(body).write(s, sender);
+    let kept = record.holding(body);
+    kept.write(s, sender);
     OrderAnswer::VoteNew
 }
