@@ -92,7 +92,7 @@ fn credit(s: &mut [u8], funding: Funding) -> CreditAnswer
     if index.0 != last.0 + 1 {
         return CreditAnswer::Refused(Refusal::NotNextIndex);
     }
-    if record.balance + funding.amount > balance::HIGHEST {
+    if record.balance + funding.amount > Record::HIGHEST {
         return CreditAnswer::Refused(Refusal::BadState);
     }
     state::put_index(s, index);

@@ -2,23 +2,20 @@
 ghost use mathlib.Core.Path.{_≡_};
 ghost use Prim.Native.Nat.{_≤_, _<_, _^_};
 ghost use Rattle.records.specs.Balances as balances;
-
-pub const NOUGHT: u64 = 1_000_000_000_000_000;
-
-pub const HIGHEST: u64 = 2_000_000_000_000_000;
+use crate::record::Record;
 
 // From the number that the eight bytes make.
 pub fn lift(w: u64) -> u64
     ensures { λ r. ⌜ r ≡ balances.lift w ⌝ }
 {
-    std::num::wrapping_add_u64(w, NOUGHT)
+    std::num::wrapping_add_u64(w, Record::NOUGHT)
 }
 
 // And back.
 pub fn lower(lifted: u64) -> u64
     ensures { λ r. ⌜ r ≡ balances.lower lifted ⌝ }
 {
-    std::num::wrapping_sub_u64(lifted, NOUGHT)
+    std::num::wrapping_sub_u64(lifted, Record::NOUGHT)
 }
 
 // With its sign.
@@ -33,8 +30,8 @@ pub fn signed(lifted: u64) -> i64
 pub fn free(lifted: u64) -> u64
     ensures { λ r. ⌜ r ≡ balances.free lifted ⌝ }
 {
-    if lifted < NOUGHT {
+    if lifted < Record::NOUGHT {
         return 0;
     }
-    lifted - NOUGHT
+    lifted - Record::NOUGHT
 }

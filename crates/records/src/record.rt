@@ -41,7 +41,7 @@ fn in_range(used: u64, waiting: u64, next: u64, balance: u64) -> bool
     if next > Record::MOST_NEXT {
         return false;
     }
-    balance <= balance::HIGHEST
+    balance <= Record::HIGHEST
 }
 
 // Whether a pending body may stand in the record of this account.
@@ -98,6 +98,11 @@ impl Record {
 
     pub const MOST_NEXT: u64 = 4096;
 
+    // The balance 0 and the highest one, lifted.
+    pub const NOUGHT: u64 = 1_000_000_000_000_000;
+
+    pub const HIGHEST: u64 = 2_000_000_000_000_000;
+
     // A record out of use.
     pub fn fresh() -> Record
         ensures { λ r. ⌜ r ≡ records.freshRecord ⌝ }
@@ -106,7 +111,7 @@ impl Record {
             used: false,
             waiting: 0,
             next: Sequence(0),
-            balance: balance::NOUGHT,
+            balance: Record::NOUGHT,
             pending: [0u8; 57],
         }
     }

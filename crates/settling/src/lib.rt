@@ -10,7 +10,6 @@ ghost use Rattle.records.specs.States.{base, recordOf, isFormed};
 ghost use Rattle.records.specs.Answers.{outcome, confirmSaid};
 ghost use Rattle.records.specs.Calls as calls;
 use records::answers::ConfirmAnswer;
-use records::balance;
 use records::record::Record;
 use wire::answers::Refusal;
 use wire::kinds::Account;
@@ -46,7 +45,7 @@ fn pay(s: &mut [u8], payment: Payment, votes: u64, from: Record) -> ConfirmAnswe
     }
     let recipient = Account(payment.recipient);
     let to = Record::read(s, recipient);
-    if to.balance + amount > balance::HIGHEST {
+    if to.balance + amount > Record::HIGHEST {
         return ConfirmAnswer::Refused(Refusal::BadState);
     }
     let payer = from.paid(amount);
@@ -80,10 +79,12 @@ pub fn settle(s: &mut [u8], payment: Payment, votes: u64) -> ConfirmAnswer
         return ConfirmAnswer::Refused(Refusal::BadState);
     }
     let from = Record::read(s, sender);
-    if payment.sequence.0 < from.next.0 {
+    let sequence = payment.sequence.0;
+    let next = from.next.0;
+    if sequence < next {
         return ConfirmAnswer::Already(votes);
     }
-    if payment.sequence.0 != from.next.0 {
+    if sequence != next {
         return ConfirmAnswer::Refused(Refusal::NotNextSequence);
     }
     pay(s, payment, votes, from)

@@ -8,7 +8,6 @@ ghost use Rattle.records.specs.States.{base};
 ghost use Rattle.records.specs.Answers.{outcome, orderSaid};
 ghost use Rattle.records.specs.Calls as calls;
 use records::answers::OrderAnswer;
-use records::balance;
 use records::record::Record;
 use wire::answers::Refusal;
 use wire::kinds::Payment;
@@ -35,7 +34,7 @@ pub fn vote(s: &mut [u8], payment: Payment, body: &[u8]) -> OrderAnswer
     if payment.sequence.0 != record.next.0 {
         return OrderAnswer::Refused(Refusal::NotNextSequence);
     }
-    if record.balance < balance::NOUGHT + payment.amount {
+    if record.balance < Record::NOUGHT + payment.amount {
         return OrderAnswer::Refused(Refusal::BalanceTooLow);
     }
     let kept = record.holding(body);

@@ -36,24 +36,24 @@ same-length-3 c = search needs
 
 returns-3 : tie.Need-returns-3
 unfolding settle settleOn
-returns-3 c = simp (← c .before .before .before .before .before .before .before .before .before .formed .ensures, not-false (c .before .before .before .before .before .before .before .before .before .formed .result) (c .before .before .before .before .before .before .before .before .if1 .left), ← c .before .before .before .before .before .before .recipient-formed .ensures, not-false (c .before .before .before .before .before .before .recipient-formed .result) (c .before .before .before .before .before .if2 .left), ← c .before .before .before .read .ensures, lt-ltb _ _ (c .if3 .taken))
+returns-3 c = simp (← c .before .before .before .before .before .before .before .formed .ensures, not-false (c .before .before .before .before .before .before .before .formed .result) (c .before .before .before .before .before .before .if1 .left), ← c .before .before .before .before .recipient-formed .ensures, not-false (c .before .before .before .before .recipient-formed .result) (c .before .before .before .if2 .left), ← c .before .read .ensures, lt-ltb _ _ (c .if3 .taken))
 
 same-length-4 : tie.Need-same-length-4
 same-length-4 c = search needs
 
 returns-4 : tie.Need-returns-4
 unfolding settle settleOn
-returns-4 c = simp (← c .before .before .before .before .before .before .before .before .before .before .before .before .formed .ensures, not-false (c .before .before .before .before .before .before .before .before .before .before .before .before .formed .result) (c .before .before .before .before .before .before .before .before .before .before .before .if1 .left), ← c .before .before .before .before .before .before .before .before .before .recipient-formed .ensures, not-false (c .before .before .before .before .before .before .before .before .before .recipient-formed .result) (c .before .before .before .before .before .before .before .before .if2 .left), ← c .before .before .before .before .before .before .read .ensures, le-ltb _ _ (c .before .before .before .if3 .left), ne-eqb _ _ (c .if4 .taken))
+returns-4 c = simp (← c .before .before .before .before .before .before .before .before .formed .ensures, not-false (c .before .before .before .before .before .before .before .before .formed .result) (c .before .before .before .before .before .before .before .if1 .left), ← c .before .before .before .before .before .recipient-formed .ensures, not-false (c .before .before .before .before .before .recipient-formed .result) (c .before .before .before .before .if2 .left), ← c .before .before .read .ensures, le-ltb _ _ (c .before .if3 .left), ne-eqb _ _ (c .if4 .taken))
 
 pay-requires : tie.Need-pay-requires
-pay-requires c κs = let f = formed-fits _ _ _ (sym (c .before .before .before .before .before .before .before .before .before .before .before .before .before .formed .ensures) ∙ not-false (c .before .before .before .before .before .before .before .before .before .before .before .before .before .formed .result) (c .before .before .before .before .before .before .before .before .before .before .before .before .if1 .left)) in (c .before .before .before .before .before .before .before .before .before .before .before .before .before .before .before .before .before .pre .0, c .before .before .before .before .before .before .before .before .before .before .before .before .before .before .before .before .before .pre .1, omega (arith, payment-range _ (c .before .before .before .before .before .before .before .before .before .before .before .before .before .before .before .before .before .pre .1) .sequence, c .before .if4 .left), rw (c .before .before .before .before .before .before .before .read .ensures) f, sym (c .before .before .before .before .before .before .before .before .before .before .recipient-formed .ensures) ∙ not-false (c .before .before .before .before .before .before .before .before .before .before .recipient-formed .result) (c .before .before .before .before .before .before .before .before .before .if2 .left))
+pay-requires c κs = let f = formed-fits _ _ _ (sym (c .before .before .before .before .before .before .before .before .before .formed .ensures) ∙ not-false (c .before .before .before .before .before .before .before .before .before .formed .result) (c .before .before .before .before .before .before .before .before .if1 .left)) in (c .before .before .before .before .before .before .before .before .before .before .before .before .before .pre .0, c .before .before .before .before .before .before .before .before .before .before .before .before .before .pre .1, omega (arith, payment-range _ (c .before .before .before .before .before .before .before .before .before .before .before .before .before .pre .1) .sequence, c .before .if4 .left), rw (c .before .before .before .read .ensures) f, sym (c .before .before .before .before .before .before .recipient-formed .ensures) ∙ not-false (c .before .before .before .before .before .before .recipient-formed .result) (c .before .before .before .before .before .if2 .left))
 
 same-length-5 : tie.Need-same-length-5
 same-length-5 c = search needs
 
 returns-5 : tie.Need-returns-5
 unfolding settle settleOn
-returns-5 c = simp (← c .before .before .before .before .before .before .before .before .before .before .before .before .before .before .before .before .formed .ensures, not-false (c .before .before .before .before .before .before .before .before .before .before .before .before .before .before .before .before .formed .result) (c .before .before .before .before .before .before .before .before .before .before .before .before .before .before .before .if1 .left), ← c .before .before .before .before .before .before .before .before .before .before .before .before .before .recipient-formed .ensures, not-false (c .before .before .before .before .before .before .before .before .before .before .before .before .before .recipient-formed .result) (c .before .before .before .before .before .before .before .before .before .before .before .before .if2 .left), ← c .before .before .before .before .before .before .before .before .before .before .read .ensures, le-ltb _ _ (c .before .before .before .before .before .before .before .if3 .left), eq-eqb _ _ (c .before .before .before .before .if4 .left)) (c .before .before .pay .ensures)
+returns-5 c = simp (← c .before .before .before .before .before .before .before .before .before .before .before .before .formed .ensures, not-false (c .before .before .before .before .before .before .before .before .before .before .before .before .formed .result) (c .before .before .before .before .before .before .before .before .before .before .before .if1 .left), ← c .before .before .before .before .before .before .before .before .before .recipient-formed .ensures, not-false (c .before .before .before .before .before .before .before .before .before .recipient-formed .result) (c .before .before .before .before .before .before .before .before .if2 .left), ← c .before .before .before .before .before .before .read .ensures, le-ltb _ _ (c .before .before .before .before .before .if3 .left), eq-eqb _ _ (c .before .before .before .before .if4 .left)) (c .before .before .pay .ensures)
 
 pub settle-spec : {M : Type 1} → statement M
 settle-spec =
