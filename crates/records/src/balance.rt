@@ -1,6 +1,6 @@
 // Balances are handled lifted by 10^15: from 0, the lowest, to 2 * 10^15. They stand in eight bytes as two's complement.
 ghost use mathlib.Core.Path.{_≡_};
-ghost use Prim.Native.Nat.{_≤_, _<_, _^_};
+ghost use Prim.Native.Nat.{_≤_};
 ghost use Rattle.records.specs.Balances as balances;
 use crate::record::Record;
 

@@ -1,6 +1,6 @@
 // The whole state: 4,616 bytes, of which the first eight are the header.
 ghost use mathlib.Core.Path.{_≡_};
-ghost use Prim.Native.Nat.{_≤_, _<_};
+ghost use Prim.Native.Nat.{_<_};
 ghost use lib.ListN.{length};
 ghost use Rattle.octets.specs.Octets as octets;
 ghost use Rattle.records.specs.States as states;
