@@ -1,26 +1,24 @@
 // The calls on a settlement machine. None asks anything of its caller; a refusal changes nothing.
+pub use settling::handle_certificate;
+pub use voting::handle_order;
 ghost use mathlib.Core.Path.{_≡_};
 ghost use mathlib.Core.Bool.{true};
 ghost use lib.ListN.{length};
 ghost use Rattle.wire.specs.Messages.{isFunding};
 ghost use Rattle.records.specs.States.{base};
-ghost use Rattle.records.specs.Answers.{outcome, freshSaid, orderSaid, confirmSaid, creditSaid, accountShown};
+ghost use Rattle.records.specs.Answers.{outcome, freshSaid, creditSaid, accountShown};
 ghost use Rattle.records.specs.Calls as calls;
-use messages::certificate;
 use messages::funding;
 use messages::order;
 use records::answers::AccountAnswer;
-use records::answers::ConfirmAnswer;
 use records::answers::CreditAnswer;
 use records::answers::FreshAnswer;
-use records::answers::OrderAnswer;
 use records::answers::Reading;
 use records::balance;
 use records::committee::Committee;
 use records::record::Record;
 use records::state;
 use wire::answers::BodyAnswer;
-use wire::answers::CertificateAnswer;
 use wire::answers::FundingAnswer;
 use wire::answers::Refusal;
 use wire::kinds::Account;
@@ -41,40 +39,6 @@ pub fn make_fresh(s: &mut [u8], committee: Committee, own: Machine) -> FreshAnsw
     }
     state::write_fresh(s, committee, own);
     FreshAnswer::Made
-}
-
-pub fn handle_order(s: &mut [u8], message: &[u8], verdicts: &[u8]) -> OrderAnswer
-    ensures { λ r. ⌜ outcome (orderSaid r) (now (s .exit)) ≡ calls.order base (now (s .entry)) (now (message .entry)) (now (verdicts .entry)) ⌝ }
-{
-    if !state::formed(s) {
-        return OrderAnswer::Refused(Refusal::BadState);
-    }
-    match order::order_payment(message) {
-        BodyAnswer::Refused(refusal) => OrderAnswer::Refused(refusal),
-        BodyAnswer::Pays(payment) => {
-            if verdicts.len() != 1 {
-                return OrderAnswer::Refused(Refusal::VerdictCount);
-            }
-            if !votes::all_good(verdicts) {
-                return OrderAnswer::Refused(Refusal::BadVerdict);
-            }
-            let size = octets::get16(message, 1) as usize;
-            voting::vote(s, payment, octets::cut(message, 3, size))
-        }
-    }
-}
-
-pub fn handle_certificate(s: &mut [u8], message: &[u8], verdicts: &[u8]) -> ConfirmAnswer
-    ensures { λ r. ⌜ outcome (confirmSaid r) (now (s .exit)) ≡ calls.certificate base (now (s .entry)) (now (message .entry)) (now (verdicts .entry)) ⌝ }
-{
-    if !state::formed(s) {
-        return ConfirmAnswer::Refused(Refusal::BadState);
-    }
-    let committee = state::committee(s);
-    match certificate::judge_certificate(committee.faults, message, verdicts) {
-        CertificateAnswer::Refused(refusal) => ConfirmAnswer::Refused(refusal),
-        CertificateAnswer::Certifies(payment, machines) => settling::settle(s, payment, machines),
-    }
 }
 
 // A funding order with a good verdict: the account is credited if the index is the next.

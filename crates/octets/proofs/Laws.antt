@@ -3,12 +3,12 @@ use Prim.Native.Nat.{ℕ, zero, suc, _+_, _*_, _/_, _%_, _^_, _<_, _≤_, _-_, m
 use mathlib.Core.Path.{_≡_, refl, sym, ap, _∙_}
 use mathlib.Core.List.{List, [], _∷_, _++_, append-nil, append-assoc}
 use native.Mathlib.Omega.{arith}
-use native.Mathlib.Nat.{two-pow-succ, not-suc-le-zero, div-add-mod', div-lt-iff-lt-mul, mod-lt, one-le-pow, zero-add}
+use native.Mathlib.Nat.{two-pow-succ, div-add-mod', div-lt-iff-lt-mul, mod-lt, one-le-pow, zero-add}
 use native.Mathlib.Numerals.{add-one}
 use lib.Arith.{digits-lt, digits-div, digits-mod}
 use lib.Pow.{pow-add}
 use lib.Dec.{lit<}
-use lib.ListN.{length, getD, take, drop, set, replicate, length-replicate, replicate-append-replicate, length-append, length-set, length-take, length-drop, take-append-drop}
+use lib.ListN.{length, getD, take, drop, set, replicate, length-replicate, replicate-append-replicate, length-append, length-take, length-drop, take-append-drop}
 use lib.Seq.{sets, length-sets, getD-set-other, getD-set-same, set-getD, sets-eq, take-suc, length-take-le, drop-length, drop-at, take-at, ext-getD, getD-take, getD-drop, take-add}
 use Rattle.octets.specs.Octets.{span, number, bytes, cut, put}
 
@@ -41,18 +41,6 @@ getD-put-out s at [] i out = refl
 getD-put-out s at (x ∷ vs) i out =
     getD-put-out (set s at x) (suc at) vs i (λ p q. out (omega arith) (omega arith))
     ∙ getD-set-other s at i x 0 (λ e. out (omega arith) (omega arith))
-
--- the stretch holds what was put there
-pub getD-put-in : (s : List ℕ) (at : ℕ) (vs : List ℕ) (i : ℕ) → i < length vs → at + length vs ≤ length s → getD (put s at vs) (at + i) 0 ≡ getD vs i 0
-unfolding put
-getD-put-in s at [] i h k = absurd (not-suc-le-zero h)
-getD-put-in s at (x ∷ vs) zero h k =
-    ap (λ (n : ℕ). getD (sets (set s at x) (suc at) vs) n 0) (omega arith)
-    ∙ getD-put-out (set s at x) (suc at) vs at (λ p q. omega arith)
-    ∙ getD-set-same s at x 0 (omega arith)
-getD-put-in s at (x ∷ vs) (suc i) h k =
-    ap (λ (n : ℕ). getD (sets (set s at x) (suc at) vs) n 0) (omega arith)
-    ∙ getD-put-in (set s at x) (suc at) vs i (omega arith) (rw length-set (omega arith))
 
 -- a number outside the stretch stays
 pub number-put-out : (k : ℕ) (s : List ℕ) (at : ℕ) (vs : List ℕ) (i : ℕ) → ((j : ℕ) → at ≤ j → j < at + length vs → i ≤ j → j < i + 2 ^ k → ⊥) → number k (put s at vs) i ≡ number k s i
@@ -139,24 +127,6 @@ unfolding put
 put-cut s at n h =
     let e : length (cut s at n) ≡ n = simp (length-take, length-drop) (omega arith) in
     sets-eq (cut s at n) s at (omega arith) ∙ rw (e, ← take-add) (take-append-drop (at + n) s)
-
--- a number, or a stretch, within the stretch that was put: read it there
-pub number-put-in : (k : ℕ) (s : List ℕ) (at : ℕ) (vs : List ℕ) (i : ℕ) → i + 2 ^ k ≤ length vs → at + length vs ≤ length s → number k (put s at vs) (at + i) ≡ number k vs i
-unfolding number
-number-put-in zero s at vs i h l = getD-put-in s at vs i (omega arith) l
-number-put-in (suc k) s at vs i h l =
-    let e : at + i + 2 ^ k ≡ at + (i + 2 ^ k) = omega arith in
-    rw (number-put-in k s at vs i (omega (arith, two-pow-succ k)) l, e, number-put-in k s at vs (i + 2 ^ k) (omega (arith, two-pow-succ k)) l)
-
-pub cut-put-in : (s : List ℕ) (at : ℕ) (vs : List ℕ) (i n : ℕ) → i + n ≤ length vs → at + length vs ≤ length s → cut (put s at vs) (at + i) n ≡ cut vs i n
-cut-put-in s at vs i n h l =
-    let a : length (cut (put s at vs) (at + i) n) ≡ n = simp (length-take, length-drop, length-put) (omega arith) in
-    let b : length (cut vs i n) ≡ n = simp (length-take, length-drop) (omega arith) in
-    ext-getD 0 (cut (put s at vs) (at + i) n) (cut vs i n) (a ∙ sym b)
-    (λ j q. let e : at + i + j ≡ at + (i + j) = omega arith in
-    getD-take n (drop (at + i) (put s at vs)) j 0 (omega arith) ∙ getD-drop (at + i) (put s at vs) j 0
-    ∙ rw (e, getD-put-in s at vs (i + j) (omega arith) l)
-    (sym (getD-take n (drop i vs) j 0 (omega arith) ∙ getD-drop i vs j 0)))
 
 -- a number's bytes make the number
 pub number-bytes : (k v : ℕ) (rest : List ℕ) → v < span k → number k (bytes k v ++ rest) 0 ≡ v

@@ -1,3 +1,4 @@
 pub mod Balances
 pub mod Facts
 pub mod Ranges
+pub mod Unless

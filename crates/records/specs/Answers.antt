@@ -14,34 +14,40 @@ use Rattle.records.specs.declared.answers.AccountAnswer.{AccountAnswer}
 abbrev pub done : Said
 done = gives []
 
--- vote, new; vote, repeated
+-- vote, new
 abbrev pub voteNew : Said
 voteNew = gives (0 ∷ [])
 
+-- vote, repeated
 abbrev pub voteRepeated : Said
 voteRepeated = gives (1 ∷ [])
 
--- confirmed, or already; both with the number of votes counted
+-- confirmed, with the number of votes counted
 abbrev pub confirmed : ℕ → Said
 confirmed votes = gives (0 ∷ votes ∷ [])
 
+-- already, with the number of votes counted
 abbrev pub already : ℕ → Said
 already votes = gives (1 ∷ votes ∷ [])
 
+-- the answer on making a fresh state
 abbrev pub freshSaid : FreshAnswer → Said
 freshSaid FreshAnswer.Made = done
 freshSaid (FreshAnswer.Refused r) = refuses (refusalNumber r)
 
+-- the answer on an order
 abbrev pub orderSaid : OrderAnswer → Said
 orderSaid OrderAnswer.VoteNew = voteNew
 orderSaid OrderAnswer.VoteRepeated = voteRepeated
 orderSaid (OrderAnswer.Refused r) = refuses (refusalNumber r)
 
+-- the answer on a certificate
 abbrev pub confirmSaid : ConfirmAnswer → Said
 confirmSaid (ConfirmAnswer.Confirmed votes) = confirmed votes
 confirmSaid (ConfirmAnswer.Already votes) = already votes
 confirmSaid (ConfirmAnswer.Refused r) = refuses (refusalNumber r)
 
+-- the answer on a funding order
 abbrev pub creditSaid : CreditAnswer → Said
 creditSaid CreditAnswer.Credited = done
 creditSaid (CreditAnswer.Refused r) = refuses (refusalNumber r)
@@ -55,6 +61,7 @@ pub record AccountShown : Type 0 where
 abbrev pub unshown : ℕ → AccountShown
 unshown n = record { answer = refuses n; balance = pos 0 }
 
+-- the answer on reading an account
 abbrev pub accountShown : AccountAnswer → AccountShown
 accountShown (AccountAnswer.Shows r) = record { answer = gives (bit (r .used) ∷ r .next .0 ∷ r .free ∷ []); balance = r .balance }
 accountShown (AccountAnswer.Refused r) = unshown (refusalNumber r)
@@ -64,6 +71,7 @@ pub record Outcome : Type 0 where
   pub answer : Said
   pub state : List ℕ
 
+-- the two together, as a contract states them
 abbrev pub outcome : Said → List ℕ → Outcome
 outcome said s = record { answer = said; state = s }
 

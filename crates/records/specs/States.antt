@@ -38,13 +38,15 @@ isState rules s = eqb (length s) (stateLength rules) && rules .isHeader s
 abbrev pub place : Rules → ℕ → ℕ
 place rules account = rules .records + 72 * account
 
--- an account's record, whether it is well formed, and its pending body
+-- an account's record
 abbrev pub recordOf : Rules → List ℕ → ℕ → Record
 recordOf rules s account = recordAt s (place rules account)
 
+-- whether it is well formed
 abbrev pub isFormed : Rules → List ℕ → ℕ → Bool
 isFormed rules s account = isRecord account s (place rules account)
 
+-- its pending body
 abbrev pub pendingOf : Rules → List ℕ → ℕ → List ℕ
 pendingOf rules s account = pendingAt s (place rules account)
 
@@ -52,10 +54,11 @@ pendingOf rules s account = pendingAt s (place rules account)
 abbrev pub withRecord : Rules → List ℕ → ℕ → Record → List ℕ
 withRecord rules s account r = put s (place rules account) (recordBytes r)
 
--- the last funding index, and the state with another one
+-- the last funding index
 abbrev pub lastIndex : List ℕ → ℕ
 lastIndex s = number two s 2
 
+-- the state with another one
 abbrev pub withIndex : List ℕ → ℕ → List ℕ
 withIndex s index = put s 2 (bytes two index)
 

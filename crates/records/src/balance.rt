@@ -5,14 +5,14 @@ ghost use Rattle.records.specs.Balances as balances;
 use crate::record::Record;
 
 // From the number that the eight bytes make.
-pub fn lift(w: u64) -> u64
+pub(crate) fn lift(w: u64) -> u64
     ensures { λ r. ⌜ r ≡ balances.lift w ⌝ }
 {
     std::num::wrapping_add_u64(w, Record::NOUGHT)
 }
 
 // And back.
-pub fn lower(lifted: u64) -> u64
+pub(crate) fn lower(lifted: u64) -> u64
     ensures { λ r. ⌜ r ≡ balances.lower lifted ⌝ }
 {
     std::num::wrapping_sub_u64(lifted, Record::NOUGHT)

@@ -1,4 +1,4 @@
-// The rules of a certificate on the records that it touches.
+// Certificates: the payment is confirmed, or it was already, or a refusal.
 ghost use mathlib.Core.Path.{_≡_};
 ghost use mathlib.Core.Bool.{true, _||_};
 ghost use Prim.Native.Nat.{_≤_};
@@ -9,8 +9,11 @@ ghost use Rattle.records.specs.Records.{Fits};
 ghost use Rattle.records.specs.States.{base, recordOf, isFormed};
 ghost use Rattle.records.specs.Answers.{outcome, confirmSaid};
 ghost use Rattle.records.specs.Calls as calls;
+use messages::certificate;
 use records::answers::ConfirmAnswer;
 use records::record::Record;
+use records::state;
+use wire::answers::CertificateAnswer;
 use wire::answers::Refusal;
 use wire::kinds::Account;
 use wire::kinds::Payment;
@@ -67,7 +70,7 @@ fn recipient_formed(s: &[u8], payment: Payment) -> bool
 }
 
 // A payment that a quorum voted for is confirmed, whatever the balance.
-pub fn settle(s: &mut [u8], payment: Payment, votes: u64) -> ConfirmAnswer
+fn settle(s: &mut [u8], payment: Payment, votes: u64) -> ConfirmAnswer
     requires { ⌜ (length (now s) ≡ 4616) × (isPayment payment ≡ true) ⌝ }
     ensures { λ r. ⌜ outcome (confirmSaid r) (now (s .exit)) ≡ calls.settle base (now (s .entry)) payment votes ⌝ }
 {
@@ -88,4 +91,17 @@ pub fn settle(s: &mut [u8], payment: Payment, votes: u64) -> ConfirmAnswer
         return ConfirmAnswer::Refused(Refusal::NotNextSequence);
     }
     pay(s, payment, votes, from)
+}
+
+pub fn handle_certificate(s: &mut [u8], message: &[u8], verdicts: &[u8]) -> ConfirmAnswer
+    ensures { λ r. ⌜ outcome (confirmSaid r) (now (s .exit)) ≡ calls.certificate base (now (s .entry)) (now (message .entry)) (now (verdicts .entry)) ⌝ }
+{
+    if !state::formed(s) {
+        return ConfirmAnswer::Refused(Refusal::BadState);
+    }
+    let committee = state::committee(s);
+    match certificate::judge_certificate(committee.faults, message, verdicts) {
+        CertificateAnswer::Refused(refusal) => ConfirmAnswer::Refused(refusal),
+        CertificateAnswer::Certifies(payment, machines) => settle(s, payment, machines),
+    }
 }

@@ -1,4 +1,5 @@
 // Writes messages, reads them back, runs a settlement machine, and shows what is refused and why.
+mod papers;
 mod say;
 mod yard;
 
@@ -10,34 +11,6 @@ use messages::order;
 use wire::answers::BodyAnswer;
 use wire::answers::CertificateAnswer;
 use wire::answers::FundingAnswer;
-use wire::answers::WriteAnswer;
-use wire::kinds::Account;
-use wire::kinds::Funding;
-use wire::kinds::FundingIndex;
-use wire::kinds::Payment;
-use wire::kinds::Sequence;
-
-// A payment of account 2 to account 7, its first.
-fn payment_of(amount: u64) -> Payment {
-    Payment {
-        sender: Account(2),
-        kind: 0,
-        recipient: 7,
-        amount,
-        sequence: Sequence(0),
-    }
-}
-
-// How many bytes a writer made; a refusal is shown.
-fn made(answer: WriteAnswer) -> usize {
-    match answer {
-        WriteAnswer::Wrote(n) => n,
-        WriteAnswer::Refused(refusal) => {
-            say::refused(refusal);
-            0
-        }
-    }
-}
 
 fn show_payment(answer: BodyAnswer) {
     match answer {
@@ -66,7 +39,7 @@ fn show_certificate(answer: CertificateAnswer) {
 // A body is written and read, and so is its first half.
 fn whole_and_half() {
     let mut space = [0u8; 57];
-    let n = made(writing::write_body(&mut space, payment_of(1500), b""));
+    let n = papers::made(writing::write_body(&mut space, papers::payment_of(1500, 0), b""));
     let message = say::front(&space, n);
     say::hex(message);
     show_payment(body::read_payment(message));
@@ -77,20 +50,15 @@ fn whole_and_half() {
 fn unwritten() {
     say::text(b"  an amount of 0\n");
     let mut space = [0u8; 57];
-    made(writing::write_body(&mut space, payment_of(0), b""));
+    papers::made(writing::write_body(&mut space, papers::payment_of(0, 0), b""));
     say::text(b"  an output of 24 bytes\n");
     let mut small = [0u8; 24];
-    made(writing::write_body(&mut small, payment_of(1500), b""));
+    papers::made(writing::write_body(&mut small, papers::payment_of(1500, 0), b""));
 }
 
 fn funded() {
-    let order = Funding {
-        index: FundingIndex(1),
-        account: Account(2),
-        amount: 2000,
-    };
     let mut space = [0u8; 16];
-    let n = made(writing::write_funding(&mut space, order));
+    let n = papers::made(writing::write_funding(&mut space, papers::first_funding()));
     let message = say::front(&space, n);
     say::hex(message);
     show_funding(funding::read_funding(message));
@@ -99,7 +67,12 @@ fn funded() {
 fn ordered() {
     let signature = [7u8; 64];
     let mut space = [0u8; 127];
-    let n = made(writing::write_order(&mut space, payment_of(1500), b"car 12", &signature));
+    let n = papers::made(writing::write_order(
+        &mut space,
+        papers::payment_of(1500, 0),
+        b"car 12",
+        &signature,
+    ));
     let message = say::front(&space, n);
     let read = order::read_order(message);
     let answer = read.answer;
@@ -110,22 +83,13 @@ fn ordered() {
     say::hex(covered::covered(message));
 }
 
-// A run of three votes by these machines; the host checks their signatures.
-fn run_of(a: u8, b: u8, c: u8) -> [u8; 195] {
-    let mut run = [9u8; 195];
-    run[0] = a;
-    run[65] = b;
-    run[130] = c;
-    run
-}
-
 // A certificate with f = 1 and the first `size` bytes of these votes is written and judged.
 fn certify(a: u8, b: u8, c: u8, size: usize, verdicts: &[u8]) {
     let mut body = [0u8; 57];
-    let length = made(writing::write_body(&mut body, payment_of(1500), b""));
-    let run = run_of(a, b, c);
+    let length = papers::made(writing::write_body(&mut body, papers::payment_of(1500, 0), b""));
+    let run = papers::run_of(a, b, c);
     let mut space = [0u8; 512];
-    let n = made(writing::write_certificate(
+    let n = papers::made(writing::write_certificate(
         1,
         &mut space,
         say::front(&body, length),

@@ -30,17 +30,6 @@ pub(crate) fn front(s: &[u8], n: usize) -> &[u8]
     s
 }
 
-// The n bytes from at, or none where there are fewer.
-pub(crate) fn part(s: &[u8], at: usize, n: usize) -> &[u8] {
-    if s.len() < n {
-        return octets::cut(s, 0, 0);
-    }
-    if s.len() - n < at {
-        return octets::cut(s, 0, 0);
-    }
-    octets::cut(s, at, n)
-}
-
 fn digits(s: &[u8]) {
     let mut i = 0;
     while i < s.len() {
@@ -58,32 +47,28 @@ pub(crate) fn hex(s: &[u8]) {
 pub(crate) fn payment(p: Payment) {
     let sender = p.sender;
     let sequence = p.sequence;
-    text(b"    account ");
-    io::print_decimal(STDOUT_FILENO, sender.0);
+    number(b"    account ", sender.0);
     if p.kind == 0 {
         text(b" pays account ");
     } else {
         text(b" pays ledger account ");
     }
-    io::print_decimal(STDOUT_FILENO, p.recipient);
-    text(b", Wh ");
-    io::print_decimal(STDOUT_FILENO, p.amount);
+    number(b"", p.recipient);
+    number(b", Wh ", p.amount);
     count(b", sequence ", sequence.0);
 }
 
 pub(crate) fn funding(o: Funding) {
     let index = o.index;
     let account = o.account;
-    text(b"    index ");
-    io::print_decimal(STDOUT_FILENO, index.0);
-    text(b", account ");
-    io::print_decimal(STDOUT_FILENO, account.0);
+    number(b"    index ", index.0);
+    number(b", account ", account.0);
     count(b", Wh ", o.amount);
 }
 
 // Why a message is refused, in words.
-fn reason(number: u64) {
-    match number {
+fn reason(n: u64) {
+    match n {
         1 => text(b": not laid out to its end\n"),
         2 => text(b": a value is out of range\n"),
         3 => text(b": wrong number of verdicts\n"),
@@ -103,8 +88,7 @@ fn reason(number: u64) {
 }
 
 pub(crate) fn refused(refusal: Refusal) {
-    let number = refusal.number();
-    text(b"    refused ");
-    io::print_decimal(STDOUT_FILENO, number);
-    reason(number);
+    let n = refusal.number();
+    number(b"    refused ", n);
+    reason(n);
 }

@@ -1,4 +1,5 @@
 // One settlement machine, number 0 of four, over a morning.
+use crate::papers;
 use crate::say;
 use records::answers::AccountAnswer;
 use records::answers::ConfirmAnswer;
@@ -7,31 +8,8 @@ use records::answers::FreshAnswer;
 use records::answers::OrderAnswer;
 use records::answers::Reading;
 use records::committee::Committee;
-use wire::answers::WriteAnswer;
 use wire::kinds::Account;
-use wire::kinds::Funding;
-use wire::kinds::FundingIndex;
 use wire::kinds::Machine;
-use wire::kinds::Payment;
-use wire::kinds::Sequence;
-
-// How many bytes a writer made.
-fn made(answer: WriteAnswer) -> usize {
-    match answer {
-        WriteAnswer::Wrote(n) => n,
-        WriteAnswer::Refused(_) => 0,
-    }
-}
-
-fn payment_of(amount: u64, sequence: u64) -> Payment {
-    Payment {
-        sender: Account(2),
-        kind: 0,
-        recipient: 7,
-        amount,
-        sequence: Sequence(sequence),
-    }
-}
 
 fn show_fresh(answer: FreshAnswer) {
     match answer {
@@ -78,38 +56,34 @@ fn fresh(state: &mut [u8]) {
 fn order(state: &mut [u8], amount: u64, sequence: u64) {
     let signature = [7u8; 64];
     let mut space = [0u8; 127];
-    let n = made(writing::write_order(&mut space, payment_of(amount, sequence), b"", &signature));
+    let n = papers::made(writing::write_order(
+        &mut space,
+        papers::payment_of(amount, sequence),
+        b"",
+        &signature,
+    ));
     show_vote(machine::handle_order(state, say::front(&space, n), b"\x01"));
 }
 
-// The votes of machines 0, 1 and 2.
-fn votes() -> [u8; 195] {
-    let mut run = [9u8; 195];
-    run[0] = 0;
-    run[65] = 1;
-    run[130] = 2;
-    run
-}
-
-// Their certificate for 1,500 of account 2 to account 7.
+// The certificate of machines 0, 1 and 2 for 1,500 of account 2 to account 7.
 fn certificate(state: &mut [u8]) {
     let mut body = [0u8; 57];
-    let length = made(writing::write_body(&mut body, payment_of(1500, 0), b""));
-    let run = votes();
+    let length = papers::made(writing::write_body(&mut body, papers::payment_of(1500, 0), b""));
+    let run = papers::run_of(0, 1, 2);
     let mut space = [0u8; 512];
-    let n = made(writing::write_certificate(1, &mut space, say::front(&body, length), &run));
+    let n = papers::made(writing::write_certificate(
+        1,
+        &mut space,
+        say::front(&body, length),
+        &run,
+    ));
     show_confirmed(machine::handle_certificate(state, say::front(&space, n), b"\x01\x01\x01"));
 }
 
 // A funding order of 2,000 for account 2.
 fn funding(state: &mut [u8]) {
-    let order = Funding {
-        index: FundingIndex(1),
-        account: Account(2),
-        amount: 2000,
-    };
     let mut space = [0u8; 16];
-    let n = made(writing::write_funding(&mut space, order));
+    let n = papers::made(writing::write_funding(&mut space, papers::first_funding()));
     show_credited(machine::handle_funding(state, say::front(&space, n), b"\x01"));
 }
 
@@ -130,12 +104,12 @@ fn account(state: &[u8], number: u64) {
     show_account(machine::read_account(state, Account(number)));
 }
 
-// Where the records of accounts 2 and 7 stand, and the header before all.
-fn bytes(state: &[u8]) {
+// The header, and the records of accounts 2 and 7 where they stand.
+fn bytes(state: &[u8; 4616]) {
     say::text(b"  header, record of account 2, record of account 7\n");
-    say::hex(say::part(state, 0, 8));
-    say::hex(say::part(state, 152, 72));
-    say::hex(say::part(state, 512, 72));
+    say::hex(octets::cut(state, 0, 8));
+    say::hex(octets::cut(state, 152, 72));
+    say::hex(octets::cut(state, 512, 72));
 }
 
 fn ordered(state: &mut [u8]) {

@@ -1,4 +1,5 @@
-use Rattle.machine.proofs.Passing.{fit-bytes}
+use Prim.Native.Nat.{ℕ, _*_, _≤_, _<_}
+use native.Mathlib.Omega.{arith}
 use mathlib.Core.Path.{sym, ap, _∙_}
 use borrow.Author.Tests.{not-true, not-false, eq-eqb, ne-eqb, leb-true}
 use Rattle.records.specs.Answers.{outcome, done}
@@ -6,6 +7,10 @@ use Rattle.records.specs.Calls.{fresh}
 use borrow.Author.Needs.{needs}
 use Rattle.machine.proofs.make_fresh.Statement.{statement}
 use Rattle.machine.proofs.make_fresh.Tie as tie
+
+-- f and a machine number of its committee fit a byte
+fit-bytes : (f own : ℕ) → f ≤ 5 → own ≤ 3 * f → (f < 256) × (own < 256)
+fit-bytes f own h k = (omega arith, omega arith)
 
 returns : tie.Need-returns
 unfolding fresh

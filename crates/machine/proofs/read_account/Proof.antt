@@ -1,18 +1,27 @@
-use Prim.Native.Nat.{_≤_}
-use Rattle.records.specs.Balances.{highest}
+use Prim.Native.Nat.{ℕ, _≤_}
+use mathlib.Core.List.{[], _∷_}
+use Rattle.wire.specs.Refusals.{gives}
+use Rattle.records.specs.declared.record.Record.{Record}
+use Rattle.records.specs.Balances.{signed, free, highest}
+use Rattle.records.specs.Records.{bit}
+use Rattle.records.specs.Answers.{AccountShown}
+use Rattle.records.specs.Calls.{shown, account}
 use mir.Syntax.{w64}
 use mir.Val.{toZ, ofZ}
 use mir.Facts.{toZ-ofZ}
 use lib.IntN.{ℤ}
 use Rattle.records.proofs.Balances.{signed-fits}
-use Rattle.machine.proofs.Passing.{shown-as}
-use mathlib.Core.Path.{sym, ap, _∙_}
+use mathlib.Core.Path.{_≡_, sym, ap, _∙_}
 use borrow.Author.Tests.{not-true, not-false, leb-true}
-use Rattle.records.specs.Calls.{account}
 use Rattle.records.proofs.Facts.{state-length, formed-fits}
 use borrow.Author.Needs.{needs}
 use Rattle.machine.proofs.read_account.Statement.{statement}
 use Rattle.machine.proofs.read_account.Tie as tie
+
+-- what is read of a record
+shown-as : (r : Record) (balance : ℤ) (spend : ℕ) → balance ≡ signed (r .balance) → spend ≡ free (r .balance)
+    → _≡_ {A = AccountShown} (record { answer = gives (bit (r .used) ∷ r .next .0 ∷ spend ∷ []); balance = balance }) (shown r)
+shown-as r balance spend p q = λ i. record { answer = gives (bit (r .used) ∷ r .next .0 ∷ q i ∷ []); balance = p i }
 
 formed-requires : tie.Need-formed-requires
 formed-requires c κs = search needs

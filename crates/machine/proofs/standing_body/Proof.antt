@@ -1,17 +1,28 @@
+use Prim.Native.Nat.{ℕ}
+use mathlib.Core.Bool.{true}
+use mathlib.Core.List.{List}
+use Rattle.wire.specs.Refusals.{gives, paymentValues}
+use Rattle.wire.specs.Readers.{readOrderPayment}
+use Rattle.wire.specs.declared.kinds.Payment.{Payment}
+use Rattle.records.specs.States.{base, isState}
+use Rattle.records.specs.Calls.{standing, standingOn}
 use Rattle.octets.specs.Octets.{cut}
 use Rattle.records.proofs.Ranges.{payment-range}
-use Rattle.machine.proofs.Passing.{standing-for}
 use native.Mathlib.Omega.{arith}
-use mathlib.Core.Path.{sym, ap, _∙_}
+use mathlib.Core.Path.{_≡_, sym, ap, _∙_}
 use borrow.Author.Tests.{not-true, not-false, lt-ltb, le-ltb}
 use Rattle.wire.specs.Messages.{payment}
 use Rattle.messages.proofs.Onward.{order-refused}
 use Rattle.messages.proofs.Told.{order-told, order-facts}
-use Rattle.records.specs.Calls.{standing, standingOn}
 use Rattle.records.proofs.Facts.{state-length}
 use borrow.Author.Needs.{needs}
 use Rattle.machine.proofs.standing_body.Statement.{statement}
 use Rattle.machine.proofs.standing_body.Tie as tie
+
+-- the order's sender has a body standing
+standing-for : (m s : List ℕ) (p : Payment) → isState base s ≡ true → gives (paymentValues p) ≡ readOrderPayment m → standing base m s ≡ standingOn base m s (p .sender .0)
+unfolding standing
+standing-for m s p t e = let o = order-told p m e in rw (t, o .0, o .1)
 
 formed-requires : tie.Need-formed-requires
 formed-requires c κs = search needs

@@ -1,16 +1,26 @@
-use Rattle.machine.proofs.Passing.{passed-on, goes-on, judged-by}
-use mathlib.Core.Path.{sym, ap, _∙_}
+use Prim.Native.Nat.{ℕ}
+use mathlib.Core.Bool.{true}
+use mathlib.Core.List.{List}
+use Rattle.octets.specs.Octets.{one, number}
+use Rattle.wire.specs.Refusals.{Said}
+use Rattle.wire.specs.Votes.{committee}
+use Rattle.wire.specs.Readers.{judged, judgedBy}
+use Rattle.records.specs.States.{base, isState}
+use Rattle.records.proofs.Facts.{state-faults, state-length}
+use Rattle.records.proofs.Unless.{passed-on, goes-on}
+use mathlib.Core.Path.{_≡_, sym, ap, _∙_}
 use borrow.Author.Tests.{not-true, not-false}
 use Rattle.wire.specs.Messages.{payment, inside}
-use Rattle.wire.specs.Votes.{committee}
 use Rattle.wire.specs.declared.kinds.Payment.{Payment}
 use Rattle.messages.proofs.Told.{judged-told}
 use Rattle.records.specs.Calls.{certificate, settle}
-use Rattle.records.specs.States.{base}
-use Rattle.records.proofs.Facts.{state-length}
 use borrow.Author.Needs.{needs}
-use Rattle.machine.proofs.handle_certificate.Statement.{statement}
-use Rattle.machine.proofs.handle_certificate.Tie as tie
+use Rattle.settling.proofs.handle_certificate.Statement.{statement}
+use Rattle.settling.proofs.handle_certificate.Tie as tie
+
+-- a certificate is judged by the committee of the state
+judged-by : (f : ℕ) (s m verdicts : List ℕ) {said : Said} → isState base s ≡ true → f ≡ number one s 0 → said ≡ judged f m verdicts → said ≡ judgedBy (committee (number one s 0)) m verdicts
+judged-by f s m verdicts t q e = e ∙ rw (q, state-faults s t)
 
 formed-requires : tie.Need-formed-requires
 formed-requires c κs = search needs

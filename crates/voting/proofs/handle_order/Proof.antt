@@ -9,10 +9,10 @@ use Rattle.messages.proofs.Told.{order-told, order-facts}
 use Rattle.records.specs.Calls.{order, vote}
 use Rattle.records.specs.States.{base}
 use Rattle.records.proofs.Facts.{state-length}
-use Rattle.machine.proofs.Passing.{passed-on, goes-on}
+use Rattle.records.proofs.Unless.{passed-on, goes-on}
 use borrow.Author.Needs.{needs}
-use Rattle.machine.proofs.handle_order.Statement.{statement}
-use Rattle.machine.proofs.handle_order.Tie as tie
+use Rattle.voting.proofs.handle_order.Statement.{statement}
+use Rattle.voting.proofs.handle_order.Tie as tie
 
 formed-requires : tie.Need-formed-requires
 formed-requires c κs = search needs

@@ -1,0 +1,37 @@
+-- What a call does with the answer of a reader: a refusal is passed on, and with values it goes on. Assumes nothing.
+use mathlib.Core.Path.{_≡_, refl}
+use mathlib.Core.Bool.{false}
+use mathlib.Core.List.{List}
+use Prim.Native.Nat.{ℕ}
+use lib.Dec.{eqb}
+use Rattle.wire.specs.Refusals.{Said, gives, refuses, refusalNumber}
+use Rattle.wire.specs.declared.answers.Refusal.{Refusal}
+use Rattle.records.specs.Answers.{Outcome, refused}
+use Rattle.records.specs.Calls.{unless}
+
+-- no refusal has the number 0
+numbered : (r : Refusal) → eqb (refusalNumber r) 0 ≡ false
+numbered Refusal.Malformed = refl
+numbered Refusal.OutOfRange = refl
+numbered Refusal.VerdictCount = refl
+numbered Refusal.BadVerdict = refl
+numbered Refusal.UnknownMachine = refl
+numbered Refusal.VotesNotRising = refl
+numbered Refusal.TooFewVotes = refl
+numbered Refusal.SenderNotInUse = refl
+numbered Refusal.AnotherPending = refl
+numbered Refusal.NotNextSequence = refl
+numbered Refusal.BalanceTooLow = refl
+numbered Refusal.NotNextIndex = refl
+numbered Refusal.NotToLedger = refl
+numbered Refusal.AlreadyRedeemed = refl
+numbered Refusal.PotTooLow = refl
+numbered Refusal.BadState = refl
+numbered Refusal.IndexExhausted = refl
+numbered Refusal.BufferTooSmall = refl
+
+pub passed-on : (r : Refusal) (s : List ℕ) (rest : Outcome) {said : Said} → refuses (refusalNumber r) ≡ said → refused (refusalNumber r) s ≡ unless said s rest
+passed-on r s rest e = rw (← e, numbered r)
+
+pub goes-on : (vs s : List ℕ) (rest : Outcome) {said : Said} → gives vs ≡ said → rest ≡ unless said s rest
+goes-on vs s rest e = rw (← e)
