@@ -10,10 +10,12 @@ use borrow.Author.Tests.{eqb-true, eqb-false, le-leb, leb-true}
 use Rattle.octets.specs.Octets.{two, number, bytes, same}
 use Rattle.octets.proofs.Laws.{length-bytes, number-put-out, number-put}
 use Rattle.wire.specs.Messages.{payment, inside, funding, bodyFields, orderFields, certificateFields, fundingFields, isPayment, isFunding}
+use Rattle.states.specs.Headers.{withIndex, lastIndex}
+use Rattle.states.specs.Outcomes.{Outcome}
 use Rattle.records.specs.declared.record.Record.{Record}
 use Rattle.records.specs.Records.{recordAt, recordBytes, holding, paid, credited, freshRecord}
-use Rattle.records.specs.States.{Rules, base, isState, place, recordOf, isFormed, withRecord, withIndex, freshState, pendingOf, lastIndex}
-use Rattle.records.specs.Answers.{Outcome, AccountShown}
+use Rattle.records.specs.States.{Rules, base, isState, place, recordOf, isFormed, withRecord, freshState, pendingOf}
+use Rattle.records.specs.Answers.{AccountShown}
 use Rattle.records.specs.Calls.{order, certificate, fundingOrder, vote, voteOn, toItself, pay, settleOn, settle, creditOn, credit, account}
 use native.Mathlib.Decide.{ℕ-discrete}
 use Rattle.wire.specs.Numbers.{isAccount}
@@ -22,7 +24,7 @@ use Rattle.wire.specs.Votes.{Committee, votes, signersIn, known, rising, good}
 use Rattle.wire.specs.Readers.{readPayment, readOrderPayment, readFunding, judgedBy}
 use Rattle.wire.specs.declared.kinds.Payment.{Payment}
 use Rattle.roundtrip.specs.Answers.{said}
-use Rattle.records.proofs.Ranges.{PaymentRange, funding-range}
+use Rattle.wire.proofs.Ranges.{PaymentRange, funding-range}
 use Rattle.records.specs.Balances.{nought, highest}
 use Rattle.invariants.specs.RecordLaws.{Formed, paid-formed, record-window, record-read-back, record-stays, record-behind, fresh-window}
 use Rattle.invariants.specs.Outcomes.{afterPaid, Settled, order-body, certificate-body, funding-order, body-range, need-case, cond-case}

@@ -8,8 +8,9 @@ use lib.Dec.{eqb}
 use Rattle.wire.specs.Refusals.{Said}
 use Rattle.wire.specs.declared.answers.Refusal.{Refusal}
 use Rattle.roundtrip.specs.Determined.{back-injective, answered, answered-refusal}
+use Rattle.states.specs.Outcomes.{Outcome, outcome, freshSaid}
 use Rattle.records.specs.Records.{bit}
-use Rattle.records.specs.Answers.{Outcome, outcome, freshSaid, orderSaid, confirmSaid, creditSaid, AccountShown, accountShown}
+use Rattle.records.specs.Answers.{orderSaid, confirmSaid, creditSaid, AccountShown, accountShown}
 use Rattle.records.specs.declared.answers.FreshAnswer.{FreshAnswer}
 use Rattle.records.specs.declared.answers.OrderAnswer.{OrderAnswer}
 use Rattle.records.specs.declared.answers.ConfirmAnswer.{ConfirmAnswer}

@@ -10,9 +10,10 @@ use borrow.Author.Tests.{eqb-true, eqb-false, le-leb}
 use Rattle.octets.specs.Octets.{one, two, number, bytes, put, allZero}
 use Rattle.octets.proofs.Laws.{length-put, length-bytes, getD-put-out, number-put-out, cut-put-out}
 use Rattle.wire.proofs.FieldLaws.{both}
+use Rattle.states.specs.Headers.{withIndex}
 use Rattle.records.specs.declared.record.Record.{Record}
 use Rattle.records.specs.Records.{recordAt, recordBytes, holding, paid, credited}
-use Rattle.records.specs.States.{Rules, isBaseHeader, base, stateLength, isState, place, recordOf, isFormed, withRecord, withIndex, freshState}
+use Rattle.records.specs.States.{Rules, isBaseHeader, base, stateLength, isState, place, recordOf, isFormed, withRecord, freshState}
 use Rattle.records.specs.Calls.{account}
 use Rattle.invariants.specs.RecordLaws.{Formed, length-record-most, formed-stays, formed-behind, formed-record, record-formed}
 use Rattle.invariants.specs.Meaning.{InRecord, WellFormed, Lays}

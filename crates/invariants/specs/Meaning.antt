@@ -4,8 +4,9 @@ use mathlib.Core.Path.{_≡_}
 use mathlib.Core.Bool.{true}
 use mathlib.Core.List.{List}
 use Rattle.octets.specs.Octets.{put}
-use Rattle.records.specs.States.{Rules, base, isState, place, recordOf, isFormed, withIndex, lastIndex}
-use Rattle.records.specs.Answers.{Outcome}
+use Rattle.states.specs.Headers.{withIndex, lastIndex}
+use Rattle.states.specs.Outcomes.{Outcome}
+use Rattle.records.specs.States.{Rules, base, isState, place, recordOf, isFormed}
 use Rattle.records.specs.Calls.{fresh, order, certificate, fundingOrder}
 use Rattle.records.specs.Balances.{nought}
 

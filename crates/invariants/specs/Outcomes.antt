@@ -18,12 +18,14 @@ use Rattle.wire.specs.declared.kinds.Payment.{Payment}
 use Rattle.wire.specs.declared.kinds.Funding.{Funding}
 use Rattle.wire.proofs.FieldLaws.{both}
 use Rattle.roundtrip.specs.Answers.{through, said}
-use Rattle.records.proofs.Ranges.{PaymentRange, payment-range, FundingRange, funding-range}
+use Rattle.wire.proofs.Ranges.{PaymentRange, payment-range, FundingRange, funding-range}
+use Rattle.states.specs.Headers.{lastIndex, withIndex}
+use Rattle.states.specs.Outcomes.{Outcome, outcome, refused, done}
 use Rattle.records.specs.declared.record.Record.{Record}
 use Rattle.records.specs.Balances.{nought, highest}
 use Rattle.records.specs.Records.{holding, paid, credited}
-use Rattle.records.specs.States.{Rules, stateLength, isState, recordOf, isFormed, pendingOf, withRecord, lastIndex, withIndex, freshState}
-use Rattle.records.specs.Answers.{Outcome, outcome, refused, done, voteNew, voteRepeated, confirmed, already}
+use Rattle.records.specs.States.{Rules, stateLength, isState, recordOf, isFormed, pendingOf, withRecord, freshState}
+use Rattle.records.specs.Answers.{voteNew, voteRepeated, confirmed, already}
 use Rattle.records.specs.Calls.{fresh, order, vote, voteOn, toItself, pay, settleOn, settle, certificate, creditOn, credit, fundingOrder}
 
 -- what is read without a refusal holds a body

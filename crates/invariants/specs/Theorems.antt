@@ -8,9 +8,10 @@ use lib.Dec.{lit≤}
 use Rattle.octets.specs.Octets.{two, bytes}
 use Rattle.octets.proofs.Laws.{length-put, length-bytes, getD-put-out}
 use Rattle.wire.specs.Messages.{payment, inside, funding}
+use Rattle.states.specs.Headers.{withIndex, lastIndex}
 use Rattle.records.specs.declared.record.Record.{Record}
 use Rattle.records.specs.Records.{freshRecord}
-use Rattle.records.specs.States.{Rules, base, recordOf, withIndex, lastIndex}
+use Rattle.records.specs.States.{Rules, base, recordOf}
 use Rattle.records.specs.Calls.{fresh, order, certificate, fundingOrder, account}
 use Rattle.invariants.specs.RecordLaws.{holding-formed, paid-formed, credited-formed, fresh-records, record-stays}
 use Rattle.invariants.specs.Outcomes.{afterPaid, Settled, fresh-comes, order-comes, certificate-comes, funding-comes}

@@ -5,19 +5,21 @@ ghost use mathlib.Core.Path.{_≡_};
 ghost use mathlib.Core.Bool.{true};
 ghost use lib.ListN.{length};
 ghost use Rattle.wire.specs.Messages.{isFunding};
+ghost use Rattle.states.specs.Outcomes.{outcome, freshSaid};
 ghost use Rattle.records.specs.States.{base};
-ghost use Rattle.records.specs.Answers.{outcome, freshSaid, creditSaid, accountShown};
+ghost use Rattle.records.specs.Answers.{creditSaid, accountShown};
 ghost use Rattle.records.specs.Calls as calls;
 use messages::funding;
 use messages::order;
 use records::answers::AccountAnswer;
 use records::answers::CreditAnswer;
-use records::answers::FreshAnswer;
 use records::answers::Reading;
 use records::balance;
-use records::committee::Committee;
 use records::record::Record;
 use records::state;
+use states::answers::FreshAnswer;
+use states::committee::Committee;
+use states::header;
 use wire::answers::BodyAnswer;
 use wire::answers::FundingAnswer;
 use wire::answers::Refusal;
@@ -52,14 +54,14 @@ fn credit(s: &mut [u8], funding: Funding) -> CreditAnswer
         return CreditAnswer::Refused(Refusal::BadState);
     }
     let record = Record::read(s, account);
-    let last = state::last_index(s);
+    let last = header::last_index(s);
     if index.0 != last.0 + 1 {
         return CreditAnswer::Refused(Refusal::NotNextIndex);
     }
     if record.balance + funding.amount > Record::HIGHEST {
         return CreditAnswer::Refused(Refusal::BadState);
     }
-    state::put_index(s, index);
+    header::put_index(s, index);
     record.credited(funding.amount).write(s, account);
     CreditAnswer::Credited
 }

@@ -1,4 +1,2 @@
 pub mod Balances
 pub mod Facts
-pub mod Ranges
-pub mod Unless

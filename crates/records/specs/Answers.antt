@@ -1,18 +1,14 @@
 -- 01, Refusal numbers and Rules: the number and values of each case of each answer of a machine.
 use Prim.Native.Nat.{ℕ}
-use mathlib.Core.List.{List, [], _∷_}
+use mathlib.Core.List.{[], _∷_}
 use lib.IntN.{ℤ, pos}
 use Rattle.wire.specs.Refusals.{Said, gives, refuses, refusalNumber}
+use Rattle.states.specs.Outcomes.{done}
 use Rattle.records.specs.Records.{bit}
-use Rattle.records.specs.declared.answers.FreshAnswer.{FreshAnswer}
 use Rattle.records.specs.declared.answers.OrderAnswer.{OrderAnswer}
 use Rattle.records.specs.declared.answers.ConfirmAnswer.{ConfirmAnswer}
 use Rattle.records.specs.declared.answers.CreditAnswer.{CreditAnswer}
 use Rattle.records.specs.declared.answers.AccountAnswer.{AccountAnswer}
-
--- a fresh state was made, or a funding order was credited: nothing more to say
-abbrev pub done : Said
-done = gives []
 
 -- vote, new
 abbrev pub voteNew : Said
@@ -29,11 +25,6 @@ confirmed votes = gives (0 ∷ votes ∷ [])
 -- already, with the number of votes counted
 abbrev pub already : ℕ → Said
 already votes = gives (1 ∷ votes ∷ [])
-
--- the answer on making a fresh state
-abbrev pub freshSaid : FreshAnswer → Said
-freshSaid FreshAnswer.Made = done
-freshSaid (FreshAnswer.Refused r) = refuses (refusalNumber r)
 
 -- the answer on an order
 abbrev pub orderSaid : OrderAnswer → Said
@@ -65,16 +56,3 @@ unshown n = record { answer = refuses n; balance = pos 0 }
 abbrev pub accountShown : AccountAnswer → AccountShown
 accountShown (AccountAnswer.Shows r) = record { answer = gives (bit (r .used) ∷ r .next .0 ∷ r .free ∷ []); balance = r .balance }
 accountShown (AccountAnswer.Refused r) = unshown (refusalNumber r)
-
--- an answer, and the state afterwards
-pub record Outcome : Type 0 where
-  pub answer : Said
-  pub state : List ℕ
-
--- the two together, as a contract states them
-abbrev pub outcome : Said → List ℕ → Outcome
-outcome said s = record { answer = said; state = s }
-
--- a refusal changes nothing
-abbrev pub refused : ℕ → List ℕ → Outcome
-refused n s = outcome (refuses n) s

@@ -11,19 +11,17 @@ use Rattle.wire.specs.Numbers.{isFaults, isAccount}
 use Rattle.wire.specs.Fields.{need}
 use Rattle.wire.specs.Messages.{payment, inside, funding}
 use Rattle.wire.specs.Votes.{signersIn, good}
-use Rattle.wire.specs.Refusals.{Said, gives}
+use Rattle.wire.specs.Refusals.{gives}
 use Rattle.wire.specs.Readers.{isOrder, readOrderPayment, readFunding, judgedBy}
 use Rattle.wire.specs.declared.kinds.Payment.{Payment}
 use Rattle.wire.specs.declared.kinds.Funding.{Funding}
+use Rattle.states.specs.Headers.{lastIndex, withIndex}
+use Rattle.states.specs.Outcomes.{Outcome, outcome, refused, unless, done}
 use Rattle.records.specs.declared.record.Record.{Record}
 use Rattle.records.specs.Balances.{nought, highest, signed, free}
 use Rattle.records.specs.Records.{bit, holding, paid, credited}
-use Rattle.records.specs.States.{Rules, stateLength, isState, recordOf, isFormed, pendingOf, withRecord, lastIndex, withIndex, freshState}
-use Rattle.records.specs.Answers.{Outcome, outcome, refused, done, voteNew, voteRepeated, confirmed, already, AccountShown, unshown}
-
--- what follows an answer with values; a refusal is passed on, and changes nothing
-abbrev pub unless : Said → List ℕ → Outcome → Outcome
-unless said s rest = need (eqb (said .number) 0) (refused (said .number) s) rest
+use Rattle.records.specs.States.{Rules, stateLength, isState, recordOf, isFormed, pendingOf, withRecord, freshState}
+use Rattle.records.specs.Answers.{voteNew, voteRepeated, confirmed, already, AccountShown, unshown}
 
 -- making a fresh state refuses a wrong length (16), then f or own number out of range (2)
 unfoldable pub fresh : Rules → List ℕ → ℕ → ℕ → Outcome

@@ -4,9 +4,10 @@ use mathlib.Core.Bool.{Bool, _&&_}
 use mathlib.Core.List.{List, _++_}
 use lib.ListN.{length, replicate}
 use lib.Dec.{leb, eqb}
-use Rattle.octets.specs.Octets.{one, two, number, bytes, cut, put, allZero}
+use Rattle.octets.specs.Octets.{one, number, bytes, cut, put, allZero}
 use Rattle.wire.specs.Numbers.{isFaults}
 use Rattle.wire.specs.Votes.{Committee, committee}
+use Rattle.states.specs.Headers.{faultsIn}
 use Rattle.records.specs.Records.{recordAt, recordBytes, isRecord, pendingAt}
 use Rattle.records.specs.declared.record.Record.{Record}
 
@@ -20,11 +21,11 @@ pub record Rules : Type 0 where
 
 -- f; own number; last funding index (2); four zeros
 unfoldable pub isBaseHeader : List ℕ → Bool
-isBaseHeader s = isFaults (number one s 0) && (leb (number one s 1) (3 * number one s 0) && allZero (cut s 4 4))
+isBaseHeader s = isFaults (faultsIn s) && (leb (number one s 1) (3 * faultsIn s) && allZero (cut s 4 4))
 
 -- the rules of 01
 abbrev pub base : Rules
-base = record { records = 8; isHeader = isBaseHeader; committee = λ s. committee (number one s 0); further = λ body. 0 }
+base = record { records = 8; isHeader = isBaseHeader; committee = λ s. committee (faultsIn s); further = λ body. 0 }
 
 -- 4,616 bytes by the rules of 01
 abbrev pub stateLength : Rules → ℕ
@@ -53,14 +54,6 @@ pendingOf rules s account = pendingAt s (place rules account)
 -- the state with another record for an account
 abbrev pub withRecord : Rules → List ℕ → ℕ → Record → List ℕ
 withRecord rules s account r = put s (place rules account) (recordBytes r)
-
--- the last funding index
-abbrev pub lastIndex : List ℕ → ℕ
-lastIndex s = number two s 2
-
--- the state with another one
-abbrev pub withIndex : List ℕ → ℕ → List ℕ
-withIndex s index = put s 2 (bytes two index)
 
 -- a fresh machine state is f, its own number and zeros
 unfoldable pub freshState : Rules → ℕ → ℕ → List ℕ

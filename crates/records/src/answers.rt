@@ -2,11 +2,6 @@
 use wire::answers::Refusal;
 use wire::kinds::Sequence;
 
-pub enum FreshAnswer {
-    Made,
-    Refused(Refusal),
-}
-
 pub enum OrderAnswer {
     VoteNew,
     VoteRepeated,

@@ -2,22 +2,13 @@
 ghost use mathlib.Core.Path.{_≡_};
 ghost use Prim.Native.Nat.{_<_};
 ghost use lib.ListN.{length};
-ghost use Rattle.octets.specs.Octets as octets;
 ghost use Rattle.records.specs.States as states;
 ghost use Rattle.records.specs.States.{base};
-use crate::committee::Committee;
-use wire::kinds::FundingIndex;
+use states::committee::Committee;
+use states::header;
 use wire::kinds::Machine;
 
 pub const LENGTH: usize = 4616;
-
-// The committee that the header names.
-pub fn committee(s: &[u8]) -> Committee
-    requires { ⌜ length (now s) ≡ 4616 ⌝ }
-    ensures { λ r. ⌜ r .faults ≡ octets.number octets.one (now (s .entry)) 0 ⌝ }
-{
-    Committee::of(octets::get8(s, 0))
-}
 
 // Whether length and header are as they should be.
 pub fn formed(s: &[u8]) -> bool
@@ -26,7 +17,7 @@ pub fn formed(s: &[u8]) -> bool
     if s.len() != LENGTH {
         return false;
     }
-    let committee = committee(s);
+    let committee = header::committee(s);
     if !committee.in_range() {
         return false;
     }
@@ -34,20 +25,6 @@ pub fn formed(s: &[u8]) -> bool
         return false;
     }
     octets::zeros(octets::cut(s, 4, 4))
-}
-
-pub fn last_index(s: &[u8]) -> FundingIndex
-    requires { ⌜ length (now s) ≡ 4616 ⌝ }
-    ensures { λ r. ⌜ (r .0 ≡ states.lastIndex (now (s .entry))) × (r .0 < 65536) ⌝ }
-{
-    FundingIndex(octets::get16(s, 2))
-}
-
-pub fn put_index(s: &mut [u8], index: FundingIndex)
-    requires { ⌜ (length (now s) ≡ 4616) × (index .0 < 65536) ⌝ }
-    ensures { λ _. ⌜ now (s .exit) ≡ states.withIndex (now (s .entry)) (index .0) ⌝ }
-{
-    octets::put16(s, 2, index.0);
 }
 
 // A fresh state is f, the machine's own number and zeros.

@@ -5,14 +5,16 @@ ghost use Prim.Native.Nat.{_≤_};
 ghost use lib.Dec.{eqb};
 ghost use lib.ListN.{length};
 ghost use Rattle.wire.specs.Messages.{isPayment};
+ghost use Rattle.states.specs.Outcomes.{outcome};
 ghost use Rattle.records.specs.Records.{Fits};
 ghost use Rattle.records.specs.States.{base, recordOf, isFormed};
-ghost use Rattle.records.specs.Answers.{outcome, confirmSaid};
+ghost use Rattle.records.specs.Answers.{confirmSaid};
 ghost use Rattle.records.specs.Calls as calls;
 use messages::certificate;
 use records::answers::ConfirmAnswer;
 use records::record::Record;
 use records::state;
+use states::header;
 use wire::answers::CertificateAnswer;
 use wire::answers::Refusal;
 use wire::kinds::Account;
@@ -99,7 +101,7 @@ pub fn handle_certificate(s: &mut [u8], message: &[u8], verdicts: &[u8]) -> Conf
     if !state::formed(s) {
         return ConfirmAnswer::Refused(Refusal::BadState);
     }
-    let committee = state::committee(s);
+    let committee = header::committee(s);
     match certificate::judge_certificate(committee.faults, message, verdicts) {
         CertificateAnswer::Refused(refusal) => ConfirmAnswer::Refused(refusal),
         CertificateAnswer::Certifies(payment, machines) => settle(s, payment, machines),

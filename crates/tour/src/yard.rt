@@ -4,10 +4,10 @@ use crate::say;
 use records::answers::AccountAnswer;
 use records::answers::ConfirmAnswer;
 use records::answers::CreditAnswer;
-use records::answers::FreshAnswer;
 use records::answers::OrderAnswer;
 use records::answers::Reading;
-use records::committee::Committee;
+use states::answers::FreshAnswer;
+use states::committee::Committee;
 use wire::kinds::Account;
 use wire::kinds::Machine;
 

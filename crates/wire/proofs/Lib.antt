@@ -1,3 +1,4 @@
 pub mod Chain
 pub mod FieldLaws
 pub mod Laid
+pub mod Ranges

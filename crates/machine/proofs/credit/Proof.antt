@@ -2,9 +2,9 @@ use Rattle.octets.proofs.Laws.{length-put}
 use native.Mathlib.Omega.{arith}
 use mathlib.Core.Path.{sym, ap, _∙_}
 use borrow.Author.Tests.{not-true, not-false, eq-eqb, ne-eqb, lt-leb, le-leb}
+use Rattle.states.specs.Outcomes.{outcome, done}
 use Rattle.records.specs.Calls.{credit, creditOn}
-use Rattle.records.specs.Answers.{outcome, done}
-use Rattle.records.proofs.Ranges.{funding-range}
+use Rattle.wire.proofs.Ranges.{funding-range}
 use Rattle.records.proofs.Facts.{formed-fits, fits-credited}
 use borrow.Author.Needs.{needs}
 use Rattle.machine.proofs.credit.Statement.{statement}
@@ -47,7 +47,7 @@ unfolding credit creditOn
 returns-3 c = simp (← c .before .before .before .before .before .before .before .before .before .before .before .formed .ensures, not-false (c .before .before .before .before .before .before .before .before .before .before .before .formed .result) (c .before .before .before .before .before .before .before .before .before .before .if1 .left), ← c .before .before .before .before .before .before .before .before .read .ensures, ← c .before .before .before .before .before .before .last-index .ensures .0, eq-eqb _ _ (c .before .before .before .if2 .left), lt-leb _ _ (c .if3 .taken))
 
 put-index-requires : tie.Need-put-index-requires
-put-index-requires c κs = (c .before .before .before .before .before .before .before .before .before .before .before .before .before .before .before .before .before .pre .0, omega (arith, funding-range _ (c .before .before .before .before .before .before .before .before .before .before .before .before .before .before .before .before .before .pre .1) .index))
+put-index-requires c κs = (omega (arith, c .before .before .before .before .before .before .before .before .before .before .before .before .before .before .before .before .before .pre .0), omega (arith, funding-range _ (c .before .before .before .before .before .before .before .before .before .before .before .before .before .before .before .before .before .pre .1) .index))
 
 credited-requires : tie.Need-credited-requires
 credited-requires c κs = search needs

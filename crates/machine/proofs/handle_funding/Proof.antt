@@ -4,7 +4,7 @@ use Rattle.messages.proofs.Told.{funding-told}
 use Rattle.records.specs.Calls.{fundingOrder, credit}
 use Rattle.records.specs.States.{base}
 use Rattle.records.proofs.Facts.{state-length}
-use Rattle.records.proofs.Unless.{passed-on, goes-on}
+use Rattle.states.proofs.Unless.{passed-on, goes-on}
 use borrow.Author.Needs.{needs}
 use Rattle.machine.proofs.handle_funding.Statement.{statement}
 use Rattle.machine.proofs.handle_funding.Tie as tie

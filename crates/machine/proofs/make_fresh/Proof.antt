@@ -2,7 +2,7 @@ use Prim.Native.Nat.{ℕ, _*_, _≤_, _<_}
 use native.Mathlib.Omega.{arith}
 use mathlib.Core.Path.{sym, ap, _∙_}
 use borrow.Author.Tests.{not-true, not-false, eq-eqb, ne-eqb, leb-true}
-use Rattle.records.specs.Answers.{outcome, done}
+use Rattle.states.specs.Outcomes.{outcome, done}
 use Rattle.records.specs.Calls.{fresh}
 use borrow.Author.Needs.{needs}
 use Rattle.machine.proofs.make_fresh.Statement.{statement}

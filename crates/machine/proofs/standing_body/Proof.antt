@@ -7,7 +7,7 @@ use Rattle.wire.specs.declared.kinds.Payment.{Payment}
 use Rattle.records.specs.States.{base, isState}
 use Rattle.records.specs.Calls.{standing, standingOn}
 use Rattle.octets.specs.Octets.{cut}
-use Rattle.records.proofs.Ranges.{payment-range}
+use Rattle.wire.proofs.Ranges.{payment-range}
 use native.Mathlib.Omega.{arith}
 use mathlib.Core.Path.{_≡_, sym, ap, _∙_}
 use borrow.Author.Tests.{not-true, not-false, lt-ltb, le-ltb}

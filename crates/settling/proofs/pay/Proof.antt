@@ -2,9 +2,10 @@ use native.Mathlib.Omega.{arith}
 use mathlib.Core.Path.{ap}
 use borrow.Author.Tests.{eq-eqb, ne-eqb, lt-leb, le-leb}
 use Rattle.octets.proofs.Laws.{length-put}
+use Rattle.states.specs.Outcomes.{outcome}
 use Rattle.records.specs.Calls.{pay}
-use Rattle.records.specs.Answers.{outcome, confirmed}
-use Rattle.records.proofs.Ranges.{payment-range}
+use Rattle.records.specs.Answers.{confirmed}
+use Rattle.wire.proofs.Ranges.{payment-range}
 use Rattle.records.proofs.Facts.{formed-fits, fits-paid, fits-credited}
 use borrow.Author.Needs.{needs}
 use Rattle.settling.proofs.pay.Statement.{statement}

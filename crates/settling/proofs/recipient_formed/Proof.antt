@@ -1,6 +1,6 @@
 use native.Mathlib.Omega.{arith}
 use borrow.Author.Tests.{eq-eqb, ne-eqb}
-use Rattle.records.proofs.Ranges.{payment-range}
+use Rattle.wire.proofs.Ranges.{payment-range}
 use Rattle.settling.proofs.recipient_formed.Statement.{statement}
 use Rattle.settling.proofs.recipient_formed.Tie as tie
 

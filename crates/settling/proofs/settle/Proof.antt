@@ -2,7 +2,7 @@ use native.Mathlib.Omega.{arith}
 use mathlib.Core.Path.{sym, _∙_}
 use borrow.Author.Tests.{not-true, not-false, eq-eqb, ne-eqb, lt-ltb, le-ltb}
 use Rattle.records.specs.Calls.{settle, settleOn}
-use Rattle.records.proofs.Ranges.{payment-range}
+use Rattle.wire.proofs.Ranges.{payment-range}
 use Rattle.records.proofs.Facts.{formed-fits}
 use borrow.Author.Needs.{needs}
 use Rattle.settling.proofs.settle.Statement.{statement}

@@ -9,7 +9,7 @@ use Rattle.messages.proofs.Told.{order-told, order-facts}
 use Rattle.records.specs.Calls.{order, vote}
 use Rattle.records.specs.States.{base}
 use Rattle.records.proofs.Facts.{state-length}
-use Rattle.records.proofs.Unless.{passed-on, goes-on}
+use Rattle.states.proofs.Unless.{passed-on, goes-on}
 use borrow.Author.Needs.{needs}
 use Rattle.voting.proofs.handle_order.Statement.{statement}
 use Rattle.voting.proofs.handle_order.Tie as tie

@@ -1,11 +1,12 @@
+use Rattle.states.specs.Outcomes.{outcome}
 use Rattle.records.proofs.Facts.{formed-fits, fits-holding}
 use native.Mathlib.Omega.{arith}
 use mathlib.Core.Path.{sym, ap, _∙_}
 use borrow.Author.Tests.{not-true, not-false, eq-eqb, ne-eqb, lt-leb, le-leb, lt-ltb, le-ltb}
 use Rattle.octets.specs.Octets.{same}
 use Rattle.records.specs.Calls.{vote, voteOn}
-use Rattle.records.specs.Answers.{outcome, voteNew}
-use Rattle.records.proofs.Ranges.{payment-range}
+use Rattle.records.specs.Answers.{voteNew}
+use Rattle.wire.proofs.Ranges.{payment-range}
 use borrow.Author.Needs.{needs}
 use Rattle.voting.proofs.vote.Statement.{statement}
 use Rattle.voting.proofs.vote.Tie as tie

@@ -1,13 +1,16 @@
 -- What a call does with the answer of a reader: a refusal is passed on, and with values it goes on. Assumes nothing.
-use mathlib.Core.Path.{_≡_, refl}
-use mathlib.Core.Bool.{false}
+use mathlib.Core.Path.{_≡_, refl, _∙_}
+use mathlib.Core.Bool.{true, false}
 use mathlib.Core.List.{List}
 use Prim.Native.Nat.{ℕ}
 use lib.Dec.{eqb}
 use Rattle.wire.specs.Refusals.{Said, gives, refuses, refusalNumber}
 use Rattle.wire.specs.declared.answers.Refusal.{Refusal}
-use Rattle.records.specs.Answers.{Outcome, refused}
-use Rattle.records.specs.Calls.{unless}
+use Rattle.wire.specs.Numbers.{isFaults}
+use Rattle.wire.specs.Votes.{committee}
+use Rattle.wire.specs.Readers.{judged, judgedBy}
+use Rattle.states.specs.Headers.{faultsIn}
+use Rattle.states.specs.Outcomes.{Outcome, refused, unless}
 
 -- no refusal has the number 0
 numbered : (r : Refusal) → eqb (refusalNumber r) 0 ≡ false
@@ -35,3 +38,7 @@ passed-on r s rest e = rw (← e, numbered r)
 
 pub goes-on : (vs s : List ℕ) (rest : Outcome) {said : Said} → gives vs ≡ said → rest ≡ unless said s rest
 goes-on vs s rest e = rw (← e)
+
+-- a certificate is judged by the committee of the state
+pub judged-by : (f : ℕ) (s m verdicts : List ℕ) {said : Said} → isFaults (faultsIn s) ≡ true → f ≡ faultsIn s → said ≡ judged f m verdicts → said ≡ judgedBy (committee (faultsIn s)) m verdicts
+judged-by f s m verdicts t q e = e ∙ rw (q, t)

@@ -1,0 +1,1 @@
+// No code: specs/ proves what every call on the ledger keeps.

@@ -1,0 +1,66 @@
+-- 01, States: the ledger's state, a header and 64 logs, under the rules in force.
+use Prim.Native.Nat.{ℕ, _+_, _*_, _/_, _%_, _^_}
+use mathlib.Core.Bool.{Bool, _&&_}
+use mathlib.Core.List.{List, _++_}
+use lib.ListN.{length, replicate}
+use lib.Dec.{leb, eqb}
+use lib.Bits.{bitOr}
+use Rattle.octets.specs.Octets.{one, eight, number, bytes, cut, put, allZero}
+use Rattle.wire.specs.Numbers.{isFaults}
+use Rattle.wire.specs.Votes.{Committee, committee}
+use Rattle.states.specs.Headers.{faultsIn}
+
+-- the rules in force: where the logs start, behind the header; what a well-formed header is; the committee that it names
+pub record Rules : Type 0 where
+  pub logs : ℕ
+  pub isHeader : List ℕ → Bool
+  pub committee : List ℕ → Committee
+
+-- the pot: what the ledger holds and may still pay out
+abbrev pub pot : List ℕ → ℕ
+pot s = number eight s 4
+
+-- the state with another one
+abbrev pub withPot : List ℕ → ℕ → List ℕ
+withPot s amount = put s 4 (bytes eight amount)
+
+-- the ledger's pot lies in 0..10^15
+abbrev pub isPot : ℕ → Bool
+isPot amount = leb amount 1_000_000_000_000_000
+
+-- f; zero; last funding index (2); pot (8); four zeros
+unfoldable pub isBaseHeader : List ℕ → Bool
+isBaseHeader s = isFaults (faultsIn s) && (eqb (number one s 1) 0 && (isPot (pot s) && allZero (cut s 12 4)))
+
+-- the rules of 01
+abbrev pub base : Rules
+base = record { logs = 16; isHeader = isBaseHeader; committee = λ s. committee (faultsIn s) }
+
+-- 32,784 bytes by the rules of 01
+abbrev pub stateLength : Rules → ℕ
+stateLength rules = rules .logs + 32_768
+
+-- length and header are as they should be
+unfoldable pub isState : Rules → List ℕ → Bool
+isState rules s = eqb (length s) (stateLength rules) && rules .isHeader s
+
+-- where the byte with an account's sequence stands: byte s / 8 of its log of 512
+abbrev pub place : Rules → ℕ → ℕ → ℕ
+place rules account sequence = rules .logs + 512 * account + sequence / 8
+
+-- sequence s of an account is the bit of value 2^(s mod 8) in that byte
+abbrev pub value : ℕ → ℕ
+value sequence = 2 ^ (sequence % 8)
+
+-- whether an account's sequence is in the log
+unfoldable pub isRedeemed : Rules → List ℕ → ℕ → ℕ → Bool
+isRedeemed rules s account sequence = eqb (number one s (place rules account sequence) / value sequence % 2) 1
+
+-- the state with that bit set
+unfoldable pub withRedeemed : Rules → List ℕ → ℕ → ℕ → List ℕ
+withRedeemed rules s account sequence =
+    put s (place rules account sequence) (bytes one (bitOr (number one s (place rules account sequence)) (value sequence)))
+
+-- fresh: f and zeros
+unfoldable pub freshState : Rules → ℕ → List ℕ
+freshState rules f = bytes one f ++ replicate (rules .logs + 32_767) 0

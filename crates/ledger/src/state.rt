@@ -1,0 +1,60 @@
+// The whole state: 32,784 bytes, of which the first sixteen are the header.
+ghost use mathlib.Core.Path.{_≡_};
+ghost use Prim.Native.Nat.{_≤_, _<_};
+ghost use lib.ListN.{length};
+ghost use Rattle.ledger.specs.States as ledger;
+ghost use Rattle.ledger.specs.States.{base};
+use states::committee::Committee;
+use states::header;
+
+pub const LENGTH: usize = 32784;
+
+// Where the logs start, and how long each is.
+pub const LOGS: usize = 16;
+
+pub const LOG: usize = 512;
+
+pub const MOST_POT: u64 = 1_000_000_000_000_000;
+
+// Whether length and header are as they should be.
+pub(crate) fn formed(s: &[u8]) -> bool
+    ensures { λ r. ⌜ r ≡ ledger.isState base (now (s .entry)) ⌝ }
+{
+    if s.len() != LENGTH {
+        return false;
+    }
+    let committee = header::committee(s);
+    if !committee.in_range() {
+        return false;
+    }
+    if octets::get8(s, 1) != 0 {
+        return false;
+    }
+    if pot(s) > MOST_POT {
+        return false;
+    }
+    octets::zeros(octets::cut(s, 12, 4))
+}
+
+pub(crate) fn pot(s: &[u8]) -> u64
+    requires { ⌜ length (now s) ≡ 32784 ⌝ }
+    ensures { λ r. ⌜ r ≡ ledger.pot (now (s .entry)) ⌝ }
+{
+    octets::get64(s, 4)
+}
+
+pub(crate) fn put_pot(s: &mut [u8], amount: u64)
+    requires { ⌜ length (now s) ≡ 32784 ⌝ }
+    ensures { λ _. ⌜ now (s .exit) ≡ ledger.withPot (now (s .entry)) amount ⌝ }
+{
+    octets::put64(s, 4, amount);
+}
+
+// A fresh state is f and zeros.
+pub(crate) fn write_fresh(s: &mut [u8], committee: Committee)
+    requires { ⌜ (length (now s) ≡ 32784) × (committee .faults < 256) ⌝ }
+    ensures { λ _. ⌜ now (s .exit) ≡ ledger.freshState base (committee .faults) ⌝ }
+{
+    octets::clear(s, 0, LENGTH);
+    octets::put8(s, 0, committee.faults);
+}
