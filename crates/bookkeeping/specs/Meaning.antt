@@ -1,11 +1,12 @@
 -- What the laws of the ledger speak of.
 use Prim.Native.Nat.{ℕ, _+_, _*_, _≤_}
 use mathlib.Core.Path.{_≡_}
-use mathlib.Core.Bool.{Bool, true, cond}
+use mathlib.Core.Bool.{Bool, true, false, _&&_, cond}
 use mathlib.Core.List.{List, [], _∷_}
 use lib.ListN.{length, getD}
-use lib.Dec.{eqb}
+use lib.Dec.{leb, eqb}
 use Rattle.octets.specs.Octets.{put}
+use Rattle.wire.specs.Numbers.{isAccount, isAmount}
 use Rattle.states.specs.Headers.{lastIndex, withIndex}
 use Rattle.ledger.specs.States.{Rules, isState, pot, withPot, isPot}
 use Rattle.ledger.specs.Answers.{Funds}
@@ -62,6 +63,12 @@ afterAll rules s (call ∷ calls) = afterAll rules (after rules s call) calls
 unfoldable pub total : (Rules → List ℕ → Call → ℕ) → Rules → List ℕ → List Call → ℕ
 total counted rules s [] = 0
 total counted rules s (call ∷ calls) = counted rules s call + total counted rules (after rules s call) calls
+
+-- calls of fund, each in range and with room for its funding order
+unfoldable pub areFundings : List Call → Bool
+areFundings [] = true
+areFundings (Call.funding out account amount ∷ calls) = isAccount account && (isAmount amount && (leb 16 (length out) && areFundings calls))
+areFundings (Call.redeeming m verdicts ∷ calls) = false
 
 -- the books: the index is the number of funding orders given, the pot is funding less what was paid, and no order funds more than 10^9
 pub record Balanced (rules : Rules) (s : List ℕ) (orders funding paid : ℕ) : Type 0 where

@@ -1,18 +1,17 @@
 -- What a call on the ledger can come to: the bytes as they were, or new ones, with what the tests on the way said. Assumes nothing.
-use Prim.Native.Nat.{ℕ, _+_, _-_, _≤_, _<_}
-use mathlib.Core.Path.{_≡_}
-use mathlib.Core.Bool.{Bool, true, false}
+use Prim.Native.Nat.{ℕ, zero, suc, _+_, _-_, _≤_, _<_}
+use mathlib.Core.Path.{_≡_, refl}
+use mathlib.Core.Bool.{true, false}
 use mathlib.Core.List.{List}
 use native.Mathlib.Omega.{arith}
 use lib.ListN.{length}
-use lib.Dec.{leb, ltb, eqb, lit<}
+use lib.Dec.{leb, ltb, eqb, eqb·suc-zero, lit<}
 use borrow.Author.Tests.{leb-true, ltb-true, eqb-true}
 use Rattle.octets.specs.Octets.{put}
 use Rattle.wire.specs.Numbers.{isFaults, isAccount, isAmount}
 use Rattle.wire.specs.Fields.{need}
 use Rattle.wire.specs.Messages.{payment, inside, fundingBytes}
 use Rattle.wire.specs.Readers.{judgedBy}
-use Rattle.wire.specs.Refusals.{Said, refuses}
 use Rattle.wire.specs.declared.kinds.Payment.{Payment}
 use Rattle.wire.proofs.Ranges.{PaymentRange}
 use Rattle.states.specs.Headers.{lastIndex, withIndex}
@@ -43,7 +42,7 @@ pub record MayPay (rules : Rules) (s : List ℕ) (p : Payment) : Type 0 where
   pub state : isState rules s ≡ true
   pub range : PaymentRange p
   pub kind : p .kind ≡ 1
-  pub open : isRedeemed rules s (p .sender .0) (p .sequence .0) ≡ false
+  pub unredeemed : isRedeemed rules s (p .sender .0) (p .sequence .0) ≡ false
   pub enough : p .amount ≤ pot s
 
 -- what holds of the refusals and of a fresh state holds of what making one comes to
@@ -72,7 +71,8 @@ fund-comes P rules s out account amount refusal given =
 
 -- no refusal that is passed on has the number 0
 passed : (P : Outcome → Type 0) (s : List ℕ) (n : ℕ) (rest : Outcome) → ((n : ℕ) → 0 < n → P (refused n s)) → (n ≡ 0 → P rest) → P (need (eqb n 0) (refused n s) rest)
-passed P s n rest refusal given = ?
+passed P s zero rest refusal given = given refl
+passed P s (suc n) rest refusal given = rw (eqb·suc-zero n) (refusal (suc n) (omega arith))
 
 -- what holds of every refusal, and of a payment out of the pot, holds of what redeem comes to
 pub redeem-comes : (P : Outcome → Type 0) (rules : Rules) (s m verdicts : List ℕ) → ((n : ℕ) → 0 < n → P (refused n s))
@@ -86,4 +86,4 @@ redeem-comes P rules s m verdicts refusal given =
     need-case P (eqb (p .kind) 1) _ _ (refusal 13 (lit< tt)) (λ b.
     cond-case P (isRedeemed rules s (p .sender .0) (p .sequence .0)) _ _ (λ _. refusal 14 (lit< tt)) (λ c.
     need-case P (leb (p .amount) (pot s)) _ _ (refusal 15 (lit< tt)) (λ d.
-    given (record { state = a; range = body-range (inside m) (certificate-body (rules .committee s) m verdicts judged); kind = eqb-true _ _ b; open = c; enough = leb-true _ _ d }))))))
+    given (record { state = a; range = body-range (inside m) (certificate-body (rules .committee s) m verdicts judged); kind = eqb-true _ _ b; unredeemed = c; enough = leb-true _ _ d }))))))

@@ -11,7 +11,7 @@ use Rattle.roundtrip.specs.Determined.{back-injective, answered, answered-refus
 use Rattle.states.specs.Outcomes.{Outcome, outcome, freshSaid}
 use Rattle.records.specs.Records.{bit}
 use Rattle.records.specs.Answers.{orderSaid, confirmSaid, creditSaid, AccountShown, accountShown}
-use Rattle.records.specs.declared.answers.FreshAnswer.{FreshAnswer}
+use Rattle.states.specs.declared.answers.FreshAnswer.{FreshAnswer}
 use Rattle.records.specs.declared.answers.OrderAnswer.{OrderAnswer}
 use Rattle.records.specs.declared.answers.ConfirmAnswer.{ConfirmAnswer}
 use Rattle.records.specs.declared.answers.CreditAnswer.{CreditAnswer}
