@@ -6,13 +6,13 @@ use mathlib.Core.List.{List, _++_}
 use native.Mathlib.Omega.{arith}
 use lib.ListN.{length, replicate, length-append, length-replicate}
 use lib.Dec.{eqb, lit≤}
-use borrow.Author.Tests.{leb-true, le-leb, eqb-true}
+use borrow.Author.Tests.{leb-true, le-leb, eq-eqb}
 use Rattle.octets.specs.Octets.{one, two, eight, number, bytes, cut, put, allZero}
 use Rattle.octets.proofs.Laws.{length-put, length-bytes, number-put, number-put-out, cut-put-out}
 use Rattle.wire.specs.Numbers.{isFaults}
-use Rattle.wire.proofs.FieldLaws.{both}
 use Rattle.states.specs.Headers.{faultsIn, lastIndex, withIndex}
 use Rattle.ledger.specs.States.{Rules, base, isBaseHeader, stateLength, isState, pot, withPot, isPot, place, withRedeemed, freshState}
+use Rattle.ledger.proofs.Facts.{state-length, state-header, header-pot}
 use Rattle.bookkeeping.specs.Meaning.{Lays}
 
 -- what is written is read back
@@ -22,16 +22,12 @@ index-written s index h k = number-put two s 2 index (omega arith) (omega arith)
 pub pot-written : (s : List ℕ) (amount : ℕ) → 12 ≤ length s → isPot amount ≡ true → pot (withPot s amount) ≡ amount
 pot-written s amount h k = number-put eight s 4 amount (omega (arith, leb-true amount 1_000_000_000_000_000 k)) (omega arith)
 
--- the pot stays where the index is written, the index where the pot is, and both where a log bit is
+-- the pot stays where the index is written, and the index where the pot or a log bit is
 pub index-leaves-pot : (s : List ℕ) (index : ℕ) → pot (withIndex s index) ≡ pot s
 index-leaves-pot s index = number-put-out eight s 2 (bytes two index) 4 (λ j a b c d. omega (arith, length-bytes two index))
 
 pub pot-leaves-index : (s : List ℕ) (amount : ℕ) → lastIndex (withPot s amount) ≡ lastIndex s
 pot-leaves-index s amount = number-put-out two s 4 (bytes eight amount) 2 (λ j a b c d. omega arith)
-
-pub log-leaves-pot : (rules : Rules) → Lays rules → (s : List ℕ) (account sequence : ℕ) → pot (withRedeemed rules s account sequence) ≡ pot s
-unfolding withRedeemed
-log-leaves-pot rules l s account sequence = number-put-out eight s (place rules account sequence) _ 4 (λ j a b c d. omega (arith, l .room))
 
 pub log-leaves-index : (rules : Rules) → Lays rules → (s : List ℕ) (account sequence : ℕ) → lastIndex (withRedeemed rules s account sequence) ≡ lastIndex s
 unfolding withRedeemed
@@ -43,11 +39,6 @@ header-put : (s : List ℕ) (at : ℕ) (vs : List ℕ) (amount : ℕ) → 2 ≤ 
 unfolding isBaseHeader
 header-put s at vs amount h out e =
     rw (number-put-out one s at vs 0 (λ j a b c d. omega arith), number-put-out one s at vs 1 (λ j a b c d. omega arith), e, cut-put-out s at vs 12 4 out)
-
--- its pot is within the limits
-header-pot : (s : List ℕ) → isBaseHeader s ≡ true → isPot (pot s) ≡ true
-unfolding isBaseHeader
-header-pot s h = both (isPot (pot s)) _ (both (eqb (number one s 1) 0) _ (both (isFaults (faultsIn s)) _ h .1) .1) .0
 
 -- the rules of 01 lay out a state so
 pub base-lays : Lays base
@@ -85,11 +76,6 @@ pub fresh-pot : (f : ℕ) → pot (freshState base f) ≡ 0
 unfolding freshState number bytes
 fresh-pot f = refl
 
--- a well-formed state has its length
-state-length : (rules : Rules) (s : List ℕ) → isState rules s ≡ true → length s ≡ stateLength rules
-unfolding isState
-state-length rules s h = eqb-true _ _ (both (eqb (length s) (stateLength rules)) (rules .isHeader s) h .0)
-
 -- a well-formed state has room for header and logs
 pub state-room : (rules : Rules) → Lays rules → (s : List ℕ) → isState rules s ≡ true → 12 ≤ length s
 state-room rules l s h = omega (arith, l .room, state-length rules s h)
@@ -101,8 +87,7 @@ log-room rules s account sequence h a b = omega (arith, state-length rules s h)
 put-keeps : (rules : Rules) (s : List ℕ) (at : ℕ) (vs : List ℕ) → isState rules s ≡ true → (rules .isHeader s ≡ true → rules .isHeader (put s at vs) ≡ true) → isState rules (put s at vs) ≡ true
 unfolding isState
 put-keeps rules s at vs h header =
-    let t = both (eqb (length s) (stateLength rules)) (rules .isHeader s) h in
-    rw (length-put s at vs, t .0) (header (t .1))
+    rw (length-put s at vs, state-length rules s h, eq-eqb (stateLength rules) _ refl) (header (state-header rules s h))
 
 -- length and header stay right
 pub withIndex-keeps : (rules : Rules) → Lays rules → (s : List ℕ) (index : ℕ) → isState rules s ≡ true → isState rules (withIndex s index) ≡ true

@@ -12,6 +12,7 @@ use Rattle.wire.specs.Messages.{payment, inside}
 use Rattle.wire.specs.Readers.{judgedBy}
 use Rattle.wire.specs.Refusals.{Said}
 use Rattle.wire.proofs.FieldLaws.{both}
+use Rattle.wire.proofs.Ranges.{amount-most}
 use Rattle.states.specs.Headers.{lastIndex, withIndex}
 use Rattle.states.specs.Outcomes.{Outcome}
 use Rattle.invariants.specs.Outcomes.{need-case}
@@ -39,10 +40,6 @@ pot-balanced rules l s amount orders funding paid h index few fits sum most = re
   pot = omega (arith, pot-written s amount (state-room rules l s h) fits);
   most = most;
 }
-
--- an amount in range is at most 10^9
-amount-most : (amount : ℕ) → isAmount amount ≡ true → amount ≤ 1_000_000_000
-amount-most amount v = leb-true _ _ (both (leb 1 amount) (leb amount 1_000_000_000) v .1)
 
 -- a pot of balanced books has room for an amount
 pot-has-room : {rules : Rules} {s : List ℕ} {orders funding paid : ℕ} (amount : ℕ) → Balanced rules s orders funding paid → isAmount amount ≡ true → isPot (pot s + amount) ≡ true
@@ -154,3 +151,10 @@ all-given s orders funding paid (Call.redeeming m verdicts ∷ calls) b each few
 pub fundings-fit : (s : List ℕ) (f : ℕ) (calls : List Call) → fresh base s f .answer .number ≡ 0 → areFundings calls ≡ true → length calls ≤ 65_535
     → total orderGiven base (fresh base s f .state) calls ≡ length calls
 fundings-fit s f calls h each few = all-given (fresh base s f .state) 0 0 0 calls (fresh-balanced s f h) each (omega arith)
+
+-- after 65,535 of them the next one is refused with 17
+pub fundings-exhaust : (s : List ℕ) (f : ℕ) (calls : List Call) (out : List ℕ) (account amount : ℕ) → fresh base s f .answer .number ≡ 0 → areFundings calls ≡ true
+    → length calls ≡ 65_535 → isAccount account ≡ true → isAmount amount ≡ true
+    → (let t = afterAll base (fresh base s f .state) calls in fund base t out account amount ≡ unfunded 17 t out)
+fundings-exhaust s f calls out account amount h each all a v =
+    fund-exhausted out account amount (run-balanced s f calls h) a v (fundings-fit s f calls h each (omega arith) ∙ all)

@@ -5,25 +5,24 @@ use mathlib.Core.Bool.{true, false, false≢true}
 use mathlib.Core.List.{List, [], _∷_}
 use native.Mathlib.Omega.{arith}
 use lib.ListN.{length, getD, take}
-use lib.Dec.{eqb}
 use borrow.Author.Tests.{leb-true, le-leb, eq-eqb}
 use Rattle.octets.specs.Octets.{two, eight, bytes}
 use Rattle.octets.proofs.Laws.{length-put, length-bytes, getD-put-out, cut-put}
-use Rattle.wire.specs.Messages.{payment, inside, isFunding, fundingBytes}
+use Rattle.wire.specs.Messages.{payment, inside, fundingBytes}
 use Rattle.wire.specs.Refusals.{gives, fundingValues}
 use Rattle.wire.specs.Readers.{readFunding, judgedBy}
 use Rattle.wire.specs.declared.kinds.Payment.{Payment}
-use Rattle.wire.proofs.FieldLaws.{both}
 use Rattle.writing.proofs.Written.{length-funding}
 use Rattle.roundtrip.specs.Funding.{funding-read-back}
 use Rattle.states.specs.Headers.{lastIndex, withIndex}
 use Rattle.invariants.specs.Meaning.{LeavesRefused}
-use Rattle.ledger.specs.States.{Rules, base, stateLength, isState, pot, withPot, place, isRedeemed, withRedeemed}
+use Rattle.ledger.specs.States.{Rules, base, isState, pot, withPot, place, isRedeemed, withRedeemed}
 use Rattle.ledger.specs.Answers.{paid}
 use Rattle.ledger.specs.Calls.{fresh, fund, pay, redeem, nextFunding}
+use Rattle.ledger.proofs.Facts.{state-header, next-in-range}
 use Rattle.bookkeeping.specs.Meaning.{LeavesBoth, Lays}
 use Rattle.bookkeeping.specs.LogLaws.{redeemed-set, redeemed-stays, redeemed-leaves, redeemed-behind}
-use Rattle.bookkeeping.specs.Outcomes.{afterPay, MayFund, MayPay, fresh-comes, fund-comes, redeem-comes}
+use Rattle.bookkeeping.specs.Outcomes.{afterPay, MayPay, fresh-comes, fund-comes, redeem-comes}
 use Rattle.bookkeeping.specs.Keeping.{fresh-state, log-room, withIndex-keeps, withPot-keeps, withRedeemed-keeps}
 
 -- a refusal leaves state and output, byte for byte
@@ -138,17 +137,11 @@ fund-keeps rules l s out account amount h =
     (λ v. withPot-keeps rules l _ _ (v .pot-fits) (withIndex-keeps rules l s _ h))
 
 pub redeem-keeps : (rules : Rules) → Lays rules → (s m verdicts : List ℕ) → isState rules s ≡ true → isState rules (redeem rules s m verdicts .state) ≡ true
-unfolding isState
 redeem-keeps rules l s m verdicts h =
     let left = pot s - payment (inside m) .amount in
-    let most : pot s ≤ 1_000_000_000_000_000 = leb-true _ _ (l .pot-most s (both (eqb (length s) (stateLength rules)) (rules .isHeader s) h .1)) in
+    let most : pot s ≤ 1_000_000_000_000_000 = leb-true _ _ (l .pot-most s (state-header rules s h)) in
     redeem-comes (λ o. isState rules (o .state) ≡ true) rules s m verdicts (λ _ _. h)
     (λ _. withPot-keeps rules l _ left (le-leb left 1_000_000_000_000_000 (omega arith)) (withRedeemed-keeps rules l s _ _ h))
-
--- what funding gives is in range
-next-funding : {rules : Rules} {s out : List ℕ} {account amount : ℕ} → MayFund rules s out account amount → isFunding (nextFunding s account amount) ≡ true
-unfolding isFunding
-next-funding {s = s} v = simp (le-leb 1 (lastIndex s + 1) (omega arith), le-leb (lastIndex s + 1) 65_535 (omega (arith, v .index)), le-leb _ _ (v .account-most), v .amount-fits)
 
 -- the funding order that was written is read back as index, account and amount
 pub fund-read-back : (rules : Rules) (s out : List ℕ) (account amount : ℕ) → fund rules s out account amount .answer .number ≡ 0
@@ -157,4 +150,4 @@ fund-read-back rules s out account amount =
     let o = nextFunding s account amount in
     let size : length (fundingBytes o) ≡ 16 = length-funding o in
     fund-comes (λ x. x .answer .number ≡ 0 → readFunding (take 16 (x .out)) ≡ gives (fundingValues o)) rules s out account amount (λ n h e. absurd (omega arith))
-    (λ v _. rw (rw size at (cut-put out 0 (fundingBytes o) (omega (arith, v .room)))) (funding-read-back o (next-funding v)))
+    (λ v _. rw (rw size at (cut-put out 0 (fundingBytes o) (omega (arith, v .room)))) (funding-read-back o (next-in-range (lastIndex s) account amount (v .index) (le-leb _ _ (v .account-most)) (v .amount-fits))))

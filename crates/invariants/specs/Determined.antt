@@ -7,7 +7,7 @@ use lib.ListN.{getD}
 use lib.Dec.{eqb}
 use Rattle.wire.specs.Refusals.{Said}
 use Rattle.wire.specs.declared.answers.Refusal.{Refusal}
-use Rattle.roundtrip.specs.Determined.{back-injective, answered, answered-refusal}
+use Rattle.roundtrip.specs.Determined.{back-injective, answered, answered-refusal, said-injective}
 use Rattle.states.specs.Outcomes.{Outcome, outcome, freshSaid}
 use Rattle.records.specs.Records.{bit}
 use Rattle.records.specs.Answers.{orderSaid, confirmSaid, creditSaid, AccountShown, accountShown}
@@ -19,11 +19,11 @@ use Rattle.records.specs.declared.answers.AccountAnswer.{AccountAnswer}
 use Rattle.records.specs.declared.answers.Reading.{Reading}
 
 -- an answer that its number and values lead back to, with the bytes left
-determined : {A : Type 0} (said : A → Said) (refused : Refusal → A) (given : List ℕ → A) (law : (a : A) → answered refused (said a .number) (given (said a .values)) ≡ a)
+pub determined : {A : Type 0} (said : A → Said) (refused : Refusal → A) (given : List ℕ → A) (law : (a : A) → answered refused (said a .number) (given (said a .values)) ≡ a)
     (promised : Outcome) (a b : A) (s t : List ℕ) → outcome (said a) s ≡ promised → outcome (said b) t ≡ promised → (a ≡ b) × (s ≡ t)
 determined said refused given law promised a b s t p q =
     let e : outcome (said a) s ≡ outcome (said b) t = p ∙ sym q in
-    (back-injective said (λ x. answered refused (x .number) (given (x .values))) law a b (ap (λ o. o .answer) e), ap (λ o. o .state) e)
+    (said-injective said refused given law a b (ap (λ o. o .answer) e), ap (λ o. o .state) e)
 
 -- each takes two results, an answer and the bytes left, that meet the same contract
 pub fresh : (promised : Outcome) (a b : FreshAnswer) (s t : List ℕ) → outcome (freshSaid a) s ≡ promised → outcome (freshSaid b) t ≡ promised → (a ≡ b) × (s ≡ t)

@@ -1,17 +1,16 @@
--- What the tests of a ledger's state say, how a fresh one is written, and a log bit in its byte. Assumes nothing.
-use Prim.Native.Nat.{ℕ, suc, _+_, _*_, _%_, _^_, _≤_, _<_}
-use mathlib.Core.Path.{_≡_, sym, ap, _∙_}
+-- What the tests of a ledger's state say, a log bit in its byte, and the funding order that is written. Assumes nothing.
+use Prim.Native.Nat.{ℕ, _+_, _*_, _%_, _^_, _≤_, _<_}
+use mathlib.Core.Path.{_≡_, ap, _∙_}
 use mathlib.Core.Bool.{true, and-eq-true-iff}
-use mathlib.Core.List.{List, _++_}
+use mathlib.Core.List.{List}
 use native.Mathlib.Nat.{one-mul}
 use native.Mathlib.Omega.{arith}
 use lib.Bits.{bitOr, or-lt}
-use lib.Dec.{leb}
-use lib.ListN.{length, replicate, length-replicate}
+use lib.Dec.{eqb}
+use lib.ListN.{length}
 use lib.Pow.{pow-lt, shl-exact}
 use borrow.Author.Tests.{leb-true, le-leb, eqb-true}
 use Rattle.octets.specs.Octets.{one, bytes, put}
-use Rattle.octets.proofs.Laws.{put-all}
 use Rattle.wire.specs.Numbers.{isFaults, isAccount, isAmount}
 use Rattle.wire.specs.Messages.{isFunding, fundingBytes}
 use Rattle.wire.specs.Refusals.{Said}
@@ -21,27 +20,27 @@ use Rattle.wire.specs.declared.answers.WriteAnswer.{WriteAnswer}
 use Rattle.wire.proofs.FieldLaws.{both}
 use Rattle.writing.proofs.Written.{length-funding}
 use Rattle.states.specs.Headers.{faultsIn}
-use Rattle.ledger.specs.States.{base, isState, isBaseHeader, pot, value}
+use Rattle.ledger.specs.States.{Rules, base, stateLength, isState, isBaseHeader, pot, isPot, value}
 use Rattle.ledger.specs.Answers.{funds}
 
-pub state-length : (s : List ℕ) → isState base s ≡ true → length s ≡ 32_784
+pub state-length : (rules : Rules) (s : List ℕ) → isState rules s ≡ true → length s ≡ stateLength rules
 unfolding isState
-state-length s e = eqb-true _ _ (both _ _ e .0)
+state-length rules s e = eqb-true _ _ (both (eqb (length s) (stateLength rules)) (rules .isHeader s) e .0)
+
+pub state-header : (rules : Rules) (s : List ℕ) → isState rules s ≡ true → rules .isHeader s ≡ true
+unfolding isState
+state-header rules s e = both (eqb (length s) (stateLength rules)) (rules .isHeader s) e .1
+
+pub header-pot : (s : List ℕ) → isBaseHeader s ≡ true → isPot (pot s) ≡ true
+unfolding isBaseHeader
+header-pot s e = let tests = simp and-eq-true-iff at e in tests .1 .1 .0
 
 pub state-faults : (s : List ℕ) → isState base s ≡ true → isFaults (faultsIn s) ≡ true
-unfolding isState isBaseHeader
-state-faults s e = let tests = simp and-eq-true-iff at e in tests .1 .0
+unfolding isBaseHeader
+state-faults s e = both (isFaults (faultsIn s)) _ (state-header base s e) .0
 
 pub state-pot : (s : List ℕ) → isState base s ≡ true → pot s ≤ 1_000_000_000_000_000
-unfolding isState isBaseHeader
-state-pot s e = let tests = simp and-eq-true-iff at e in leb-true _ _ (tests .1 .1 .1 .0)
-
--- zeros over the whole state, then f: a fresh state
-pub fresh-put : {t u : List ℕ} (s : List ℕ) (f n : ℕ) → length s ≡ suc n → t ≡ put s 0 (replicate (suc n) 0) → u ≡ put t 0 (bytes one f) → u ≡ bytes one f ++ replicate n 0
-unfolding put bytes
-fresh-put s f n h a b =
-    let z : put s 0 (replicate (suc n) 0) ≡ replicate (suc n) 0 = put-all s (replicate (suc n) 0) (length-replicate (suc n) 0 ∙ sym h) in
-    b ∙ ap (λ (l : List ℕ). put l 0 (bytes one f)) (a ∙ z)
+state-pot s e = leb-true _ _ (header-pot s (state-header base s e))
 
 -- a bit shifted to its place in a byte has its value, and with it the byte is still one
 pub bit-value : (sequence : ℕ) → (1 * value sequence) % 2 ^ 64 ≡ value sequence
@@ -49,9 +48,6 @@ bit-value sequence = shl-exact {a = 1} 1 (sequence % 8) 64 (omega arith) (omega 
 
 pub bit-fits : (byte sequence : ℕ) → byte < 256 → bitOr byte (value sequence) < 256
 bit-fits byte sequence h = or-lt 8 byte (value sequence) h (pow-lt {i = sequence % 8} {j = 8} (omega arith))
-
-pub amount-most : (amount : ℕ) → isAmount amount ≡ true → amount ≤ 1_000_000_000
-amount-most amount e = leb-true _ _ (both (leb 1 amount) (leb amount 1_000_000_000) e .1)
 
 -- the funding order after the last is in range
 pub next-in-range : (last account amount : ℕ) → last < 65_535 → isAccount account ≡ true → isAmount amount ≡ true

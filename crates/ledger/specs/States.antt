@@ -1,14 +1,14 @@
 -- 01, States: the ledger's state, a header and 64 logs, under the rules in force.
 use Prim.Native.Nat.{ℕ, _+_, _*_, _/_, _%_, _^_}
 use mathlib.Core.Bool.{Bool, _&&_}
-use mathlib.Core.List.{List, _++_}
-use lib.ListN.{length, replicate}
+use mathlib.Core.List.{List}
+use lib.ListN.{length}
 use lib.Dec.{leb, eqb}
 use lib.Bits.{bitOr}
 use Rattle.octets.specs.Octets.{one, eight, number, bytes, cut, put, allZero}
 use Rattle.wire.specs.Numbers.{isFaults}
 use Rattle.wire.specs.Votes.{Committee, committee}
-use Rattle.states.specs.Headers.{faultsIn}
+use Rattle.states.specs.Headers.{faultsIn, freshBytes}
 
 -- the rules in force: where the logs start, behind the header; what a well-formed header is; the committee that it names
 pub record Rules : Type 0 where
@@ -63,4 +63,4 @@ withRedeemed rules s account sequence =
 
 -- fresh: f and zeros
 unfoldable pub freshState : Rules → ℕ → List ℕ
-freshState rules f = bytes one f ++ replicate (rules .logs + 32_767) 0
+freshState rules f = freshBytes (stateLength rules) f

@@ -39,7 +39,7 @@ pub fn make_fresh(s: &mut [u8], committee: Committee) -> FreshAnswer
     if !committee.in_range() {
         return FreshAnswer::Refused(Refusal::OutOfRange);
     }
-    state::write_fresh(s, committee);
+    header::write_fresh(s, committee);
     FreshAnswer::Made
 }
 

@@ -1,10 +1,8 @@
 // The whole state: 32,784 bytes, of which the first sixteen are the header.
 ghost use mathlib.Core.Path.{_≡_};
-ghost use Prim.Native.Nat.{_≤_, _<_};
 ghost use lib.ListN.{length};
 ghost use Rattle.ledger.specs.States as ledger;
 ghost use Rattle.ledger.specs.States.{base};
-use states::committee::Committee;
 use states::header;
 
 pub const LENGTH: usize = 32784;
@@ -48,13 +46,4 @@ pub(crate) fn put_pot(s: &mut [u8], amount: u64)
     ensures { λ _. ⌜ now (s .exit) ≡ ledger.withPot (now (s .entry)) amount ⌝ }
 {
     octets::put64(s, 4, amount);
-}
-
-// A fresh state is f and zeros.
-pub(crate) fn write_fresh(s: &mut [u8], committee: Committee)
-    requires { ⌜ (length (now s) ≡ 32784) × (committee .faults < 256) ⌝ }
-    ensures { λ _. ⌜ now (s .exit) ≡ ledger.freshState base (committee .faults) ⌝ }
-{
-    octets::clear(s, 0, LENGTH);
-    octets::put8(s, 0, committee.faults);
 }

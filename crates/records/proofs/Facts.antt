@@ -1,16 +1,17 @@
 -- What the tests of a record and a state say of their numbers. Assumes nothing.
-use Prim.Native.Nat.{ℕ, suc, _+_, _≤_}
-use mathlib.Core.Path.{_≡_, sym, ap, _∙_}
+use Prim.Native.Nat.{ℕ, suc, _+_, _-_, _≤_}
+use mathlib.Core.Path.{_≡_, ap, _∙_}
 use mathlib.Core.Bool.{Bool, true, and-eq-true-iff}
 use mathlib.Core.List.{List, _++_}
 use native.Mathlib.Omega.{arith}
 use borrow.Author.Tests.{leb-true, eqb-true}
 use lib.Dec.{leb}
-use lib.ListN.{length, replicate, length-append, length-replicate}
+use lib.ListN.{length, replicate, length-append}
 use Rattle.octets.specs.Octets.{one, number, bytes, put}
-use Rattle.octets.proofs.Laws.{length-bytes, put-all}
+use Rattle.octets.proofs.Laws.{length-bytes}
 use Rattle.wire.specs.Numbers.{isFaults}
 use Rattle.wire.proofs.FieldLaws.{both}
+use Rattle.states.specs.Headers.{freshBytes}
 use Rattle.records.specs.Balances.{highest}
 use Rattle.records.specs.Records.{headBytes, inRange, isRecord, recordAt, Fits, holding, paid, credited}
 use Rattle.records.specs.States.{base, isState, isBaseHeader}
@@ -43,13 +44,12 @@ formed-fits account s at e =
     let n = in-range _ _ _ _ (both _ _ e .0) in
     record { waiting = n .waiting-most; next = n .next-most; balance = n .balance-most }
 
--- zeros over the whole state, then f and the own number: a fresh state
-pub fresh-put : {t u v : List ℕ} (s : List ℕ) (f own n : ℕ) → length s ≡ suc (suc n) → t ≡ put s 0 (replicate (suc (suc n)) 0) → u ≡ put t 0 (bytes one f) → v ≡ put u 1 (bytes one own)
-    → v ≡ bytes one f ++ (bytes one own ++ replicate n 0)
+-- the own number behind f: a fresh state
+pub own-put : {t u : List ℕ} (f own n : ℕ) → t ≡ freshBytes (suc (suc n)) f → u ≡ put t 1 (bytes one own) → u ≡ bytes one f ++ (bytes one own ++ replicate n 0)
 unfolding put bytes
-fresh-put s f own n h a b c =
-    let z : put s 0 (replicate (suc (suc n)) 0) ≡ replicate (suc (suc n)) 0 = put-all s (replicate (suc (suc n)) 0) (length-replicate (suc (suc n)) 0 ∙ sym h) in
-    c ∙ ap (λ (l : List ℕ). put l 1 (bytes one own)) (b ∙ ap (λ (l : List ℕ). put l 0 (bytes one f)) (a ∙ z))
+own-put f own n a b =
+    let e : suc (suc n) - 1 ≡ suc n = omega arith in
+    b ∙ ap (λ (l : List ℕ). put l 1 (bytes one own)) (rw e at a)
 
 -- a pending body of a well-formed record has room in it
 pub pending-fits : (account : ℕ) (s : List ℕ) (at : ℕ) → isRecord account s at ≡ true → number one s (at + 1) ≤ 57

@@ -32,7 +32,6 @@ pub fn write_fresh(s: &mut [u8], committee: Committee, own: Machine)
     requires { ⌜ (length (now s) ≡ 4616) × (committee .faults < 256) × (own .0 < 256) ⌝ }
     ensures { λ _. ⌜ now (s .exit) ≡ states.freshState base (committee .faults) (own .0) ⌝ }
 {
-    octets::clear(s, 0, LENGTH);
-    octets::put8(s, 0, committee.faults);
+    header::write_fresh(s, committee);
     octets::put8(s, 1, own.0);
 }

@@ -64,7 +64,7 @@ pub refusalNumber-injective : (a b : Refusal) → refusalNumber a ≡ refusalNum
 refusalNumber-injective = back-injective refusalNumber (λ n. answered (λ r. r) n Refusal.Malformed) (answered-refusal (λ r. r) Refusal.Malformed)
 
 -- an answer that its number and values lead back to is told apart by them
-said-injective : {A : Type 0} (said : A → Said) (refused : Refusal → A) (given : List ℕ → A) (law : (a : A) → answered refused (said a .number) (given (said a .values)) ≡ a) (a b : A)
+pub said-injective : {A : Type 0} (said : A → Said) (refused : Refusal → A) (given : List ℕ → A) (law : (a : A) → answered refused (said a .number) (given (said a .values)) ≡ a) (a b : A)
     → said a ≡ said b → a ≡ b
 said-injective said refused given law = back-injective said (λ s. answered refused (s .number) (given (s .values))) law
 

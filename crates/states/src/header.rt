@@ -27,3 +27,13 @@ pub fn put_index(s: &mut [u8], index: FundingIndex)
 {
     octets::put16(s, 2, index.0);
 }
+
+// Makes the whole state f and zeros.
+pub fn write_fresh(s: &mut [u8], committee: Committee)
+    requires { ⌜ (1 ≤ length (now s)) × (committee .faults < 256) ⌝ }
+    ensures { λ _. ⌜ now (s .exit) ≡ headers.freshBytes (length (now (s .entry))) (committee .faults) ⌝ }
+{
+    let n = s.len();
+    octets::clear(s, 0, n);
+    octets::put8(s, 0, committee.faults);
+}

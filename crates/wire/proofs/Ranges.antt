@@ -4,10 +4,13 @@ use mathlib.Core.Path.{_≡_}
 use mathlib.Core.Bool.{true, false≢true, and-eq-true-iff}
 use native.Mathlib.Omega.{arith}
 use borrow.Author.Tests.{leb-true}
-use Rattle.wire.specs.Numbers.{isRecipient}
+use Rattle.wire.specs.Numbers.{isRecipient, isAmount}
 use Rattle.wire.specs.Messages.{isPayment, isFunding}
 use Rattle.wire.specs.declared.kinds.Payment.{Payment}
 use Rattle.wire.specs.declared.kinds.Funding.{Funding}
+
+pub amount-most : (amount : ℕ) → isAmount amount ≡ true → amount ≤ 1_000_000_000
+amount-most amount h = let tests = simp and-eq-true-iff at h in leb-true _ _ (tests .1)
 
 pub record PaymentRange (p : Payment) : Type 0 where
   pub sender : p .sender .0 ≤ 63

@@ -1,4 +1,6 @@
-use Rattle.ledger.proofs.Facts.{state-length, state-pot, amount-most, next-in-range, funding-left, funds-same}
+use Rattle.wire.proofs.Ranges.{amount-most}
+use Rattle.ledger.specs.States.{base}
+use Rattle.ledger.proofs.Facts.{state-length, state-pot, next-in-range, funding-left, funds-same}
 use Rattle.ledger.proofs.Facts.{state-length, state-pot, next-in-range, funding-left}
 use Rattle.ledger.specs.Calls.{fund}
 use Rattle.octets.proofs.Laws.{length-put}
@@ -40,7 +42,7 @@ unfolding fund
 returns-3 c = simp (← c .before .before .before .before .before .formed .ensures, not-false (c .before .before .before .before .before .formed .result) (c .before .before .before .before .if1 .left), ← c .before .before .before .in-range .ensures, not-false (c .before .before .before .in-range .result) (c .before .before .if2 .left), ← c .before .amount-in-range .ensures, not-true (c .before .amount-in-range .result) (c .if3 .taken))
 
 last-index-requires : tie.Need-last-index-requires
-last-index-requires c κs = omega (arith, state-length _ (sym (c .before .before .before .before .before .before .formed .ensures) ∙ not-false (c .before .before .before .before .before .before .formed .result) (c .before .before .before .before .before .if1 .left)))
+last-index-requires c κs = omega (arith, state-length base _ (sym (c .before .before .before .before .before .before .formed .ensures) ∙ not-false (c .before .before .before .before .before .before .formed .result) (c .before .before .before .before .before .if1 .left)))
 
 same-length-4 : tie.Need-same-length-4
 same-length-4 c = search needs
@@ -57,7 +59,7 @@ unfolding fund
 returns-5 c = simp (← c .before .before .before .before .before .before .before .before .before .before .formed .ensures, not-false (c .before .before .before .before .before .before .before .before .before .before .formed .result) (c .before .before .before .before .before .before .before .before .before .if1 .left), ← c .before .before .before .before .before .before .before .before .in-range .ensures, not-false (c .before .before .before .before .before .before .before .before .in-range .result) (c .before .before .before .before .before .before .before .if2 .left), ← c .before .before .before .before .before .before .amount-in-range .ensures, not-false (c .before .before .before .before .before .before .amount-in-range .result) (c .before .before .before .before .before .if3 .left), ← c .before .before .before .last-index .ensures .0, lt-ltb _ _ (c .before .if4 .left), lt-leb _ _ (c .if5 .taken))
 
 pot-requires : tie.Need-pot-requires
-pot-requires c κs = state-length _ (sym (c .before .before .before .before .before .before .before .before .before .before .before .formed .ensures) ∙ not-false (c .before .before .before .before .before .before .before .before .before .before .before .formed .result) (c .before .before .before .before .before .before .before .before .before .before .if1 .left))
+pot-requires c κs = state-length base _ (sym (c .before .before .before .before .before .before .before .before .before .before .before .formed .ensures) ∙ not-false (c .before .before .before .before .before .before .before .before .before .before .before .formed .result) (c .before .before .before .before .before .before .before .before .before .before .if1 .left))
 
 add-pot : tie.Need-add-pot
 add-pot c = omega (arith, amount-most (c .before .before .before .before .before .before .before .before .before .before .before .before .before .before .before .before .args .amount) (sym (c .before .before .before .before .before .before .before .before .amount-in-range .ensures) ∙ not-false (c .before .before .before .before .before .before .before .before .amount-in-range .result) (c .before .before .before .before .before .before .before .if3 .left)), rw (← c .pot .ensures) at (state-pot _ (sym (c .before .before .before .before .before .before .before .before .before .before .before .before .formed .ensures) ∙ not-false (c .before .before .before .before .before .before .before .before .before .before .before .before .formed .result) (c .before .before .before .before .before .before .before .before .before .before .before .if1 .left))))
@@ -73,10 +75,10 @@ add-t20 : tie.Need-add-t20
 add-t20 c = search needs
 
 put-index-requires : tie.Need-put-index-requires
-put-index-requires c κs = (omega (arith, state-length _ (sym (c .before .before .before .before .before .before .before .before .before .before .before .before .before .before .before .formed .ensures) ∙ not-false (c .before .before .before .before .before .before .before .before .before .before .before .before .before .before .before .formed .result) (c .before .before .before .before .before .before .before .before .before .before .before .before .before .before .if1 .left))), omega (arith, c .before .before .before .before .before .before .if4 .left))
+put-index-requires c κs = (omega (arith, state-length base _ (sym (c .before .before .before .before .before .before .before .before .before .before .before .before .before .before .before .formed .ensures) ∙ not-false (c .before .before .before .before .before .before .before .before .before .before .before .before .before .before .before .formed .result) (c .before .before .before .before .before .before .before .before .before .before .before .before .before .before .if1 .left))), omega (arith, c .before .before .before .before .before .before .if4 .left))
 
 put-pot-requires : tie.Need-put-pot-requires
-put-pot-requires c κs = rw (c .before .before .before .put-index .ensures, length-put) (state-length _ (sym (c .before .before .before .before .before .before .before .before .before .before .before .before .before .before .before .before .before .before .before .formed .ensures) ∙ not-false (c .before .before .before .before .before .before .before .before .before .before .before .before .before .before .before .before .before .before .before .formed .result) (c .before .before .before .before .before .before .before .before .before .before .before .before .before .before .before .before .before .before .if1 .left)))
+put-pot-requires c κs = rw (c .before .before .before .put-index .ensures, length-put) (state-length base _ (sym (c .before .before .before .before .before .before .before .before .before .before .before .before .before .before .before .before .before .before .before .formed .ensures) ∙ not-false (c .before .before .before .before .before .before .before .before .before .before .before .before .before .before .before .before .before .before .before .formed .result) (c .before .before .before .before .before .before .before .before .before .before .before .before .before .before .before .before .before .before .if1 .left)))
 
 write-funding-requires : tie.Need-write-funding-requires
 write-funding-requires c κs = search needs

@@ -1,3 +1,4 @@
+use Rattle.ledger.specs.States.{freshState}
 use Prim.Native.Nat.{_≤_}
 use Rattle.ledger.specs.Calls.{fresh}
 use Rattle.states.specs.Outcomes.{outcome, done}
@@ -20,14 +21,14 @@ unfolding fresh
 returns-2 c = simp (eq-eqb _ _ (c .before .before .if1 .left), ← c .before .in-range .ensures, not-true (c .before .in-range .result) (c .if2 .taken))
 
 write-fresh-requires : tie.Need-write-fresh-requires
-write-fresh-requires c κs = let few : c .before .before .before .before .before .args .committee .faults ≤ 5 = leb-true _ _ (sym (c .before .before .in-range .ensures) ∙ not-false (c .before .before .in-range .result) (c .before .if2 .left)) in (c .before .before .before .if1 .left, omega arith)
+write-fresh-requires c κs = let few : c .before .before .before .before .before .args .committee .faults ≤ 5 = leb-true _ _ (sym (c .before .before .in-range .ensures) ∙ not-false (c .before .before .in-range .result) (c .before .if2 .left)) in (omega (arith, c .before .before .before .if1 .left), omega arith)
 
 same-length : tie.Need-same-length
 same-length c = search needs
 
 returns-3 : tie.Need-returns-3
-unfolding fresh
-returns-3 c = simp (eq-eqb _ _ (c .before .before .before .before .before .before .if1 .left), ← c .before .before .before .before .before .in-range .ensures, not-false (c .before .before .before .before .before .in-range .result) (c .before .before .before .before .if2 .left)) (ap (outcome done) (c .before .before .write-fresh .ensures))
+unfolding fresh freshState
+returns-3 c = simp (eq-eqb _ _ (c .before .before .before .before .before .before .if1 .left), ← c .before .before .before .before .before .in-range .ensures, not-false (c .before .before .before .before .before .in-range .result) (c .before .before .before .before .if2 .left)) (ap (outcome done) (rw (c .before .before .before .before .before .before .if1 .left) at (c .before .before .write-fresh .ensures)))
 
 pub make-fresh-spec : {M : Type 1} → statement M
 make-fresh-spec =

@@ -1,3 +1,4 @@
+use Rattle.ledger.specs.States.{base}
 use Rattle.ledger.proofs.Facts.{state-length}
 use Rattle.ledger.specs.Calls.{readLog}
 use borrow.Author.Tests.{not-true, not-false, leb-true}
@@ -28,7 +29,7 @@ unfolding readLog
 returns-3 c = simp (← c .before .before .before .before .before .formed .ensures, not-false (c .before .before .before .before .before .formed .result) (c .before .before .before .before .if1 .left), ← c .before .before .before .in-range .ensures, not-false (c .before .before .before .in-range .result) (c .before .before .if2 .left), ← c .before .in-range2 .ensures, not-true (c .before .in-range2 .result) (c .if3 .taken))
 
 redeemed-requires : tie.Need-redeemed-requires
-redeemed-requires c κs = (state-length _ (sym (c .before .before .before .before .before .formed .ensures) ∙ not-false (c .before .before .before .before .before .formed .result) (c .before .before .before .before .if1 .left)), leb-true _ _ (sym (c .before .before .before .in-range .ensures) ∙ not-false (c .before .before .before .in-range .result) (c .before .before .if2 .left)), leb-true _ _ (sym (c .before .in-range2 .ensures) ∙ not-false (c .before .in-range2 .result) (c .if3 .left)))
+redeemed-requires c κs = (state-length base _ (sym (c .before .before .before .before .before .formed .ensures) ∙ not-false (c .before .before .before .before .before .formed .result) (c .before .before .before .before .if1 .left)), leb-true _ _ (sym (c .before .before .before .in-range .ensures) ∙ not-false (c .before .before .before .in-range .result) (c .before .before .if2 .left)), leb-true _ _ (sym (c .before .in-range2 .ensures) ∙ not-false (c .before .in-range2 .result) (c .if3 .left)))
 
 returns-4 : tie.Need-returns-4
 unfolding readLog

@@ -1,3 +1,4 @@
+use Rattle.ledger.specs.States.{base}
 use Rattle.ledger.proofs.Facts.{state-length}
 use Rattle.ledger.specs.Calls.{readPot}
 use borrow.Author.Tests.{not-true, not-false}
@@ -15,10 +16,10 @@ unfolding readPot
 returns c = simp (← c .before .formed .ensures, not-true (c .before .formed .result) (c .if1 .taken))
 
 last-index-requires : tie.Need-last-index-requires
-last-index-requires c κs = omega (arith, state-length _ (sym (c .before .formed .ensures) ∙ not-false (c .before .formed .result) (c .if1 .left)))
+last-index-requires c κs = omega (arith, state-length base _ (sym (c .before .formed .ensures) ∙ not-false (c .before .formed .result) (c .if1 .left)))
 
 pot-requires : tie.Need-pot-requires
-pot-requires c κs = state-length _ (sym (c .before .before .formed .ensures) ∙ not-false (c .before .before .formed .result) (c .before .if1 .left))
+pot-requires c κs = state-length base _ (sym (c .before .before .formed .ensures) ∙ not-false (c .before .before .formed .result) (c .before .if1 .left))
 
 returns-2 : tie.Need-returns-2
 unfolding readPot

@@ -21,7 +21,7 @@ unfolding redeem
 returns c = simp (← c .before .formed .ensures, not-true (c .before .formed .result) (c .if1 .taken))
 
 committee-requires : tie.Need-committee-requires
-committee-requires c κs = omega (arith, state-length _ (sym (c .before .before .formed .ensures) ∙ not-false (c .before .before .formed .result) (c .before .if1 .left)))
+committee-requires c κs = omega (arith, state-length base _ (sym (c .before .before .formed .ensures) ∙ not-false (c .before .before .formed .result) (c .before .if1 .left)))
 
 judge-certificate-requires : tie.Need-judge-certificate-requires
 judge-certificate-requires c κs = search needs
@@ -35,7 +35,7 @@ enum-known-payment c = search needs
 pay-requires : tie.Need-pay-requires
 pay-requires c κs = let f = sym (c .before .before .before .before .before .before .before .before .formed .ensures) ∙ not-false (c .before .before .before .before .before .before .before .before .formed .result) (c .before .before .before .before .before .before .before .if1 .left) in
     let e = judged-by _ (c .before .before .before .before .before .before .before .before .before .before .before .before .before .args .s .now) _ _ (state-faults _ f) (c .before .before .before .before .before .committee .ensures) (rw (c .before .before .payment .given .1) at (c .before .before .before .before .judge-certificate .ensures)) in
-    (state-length _ f, judged-told _ _ _ _ _ e .inRange)
+    (state-length base _ f, judged-told _ _ _ _ _ e .inRange)
 
 same-length-2 : tie.Need-same-length-2
 same-length-2 c = search needs

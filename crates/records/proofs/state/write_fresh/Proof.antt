@@ -1,25 +1,25 @@
+use Rattle.records.proofs.Facts.{own-put}
 use Rattle.records.specs.States.{freshState}
-use Rattle.records.proofs.Facts.{fresh-put}
 use borrow.Author.Needs.{needs}
 use Rattle.records.proofs.state.write_fresh.Statement.{statement}
 use Rattle.records.proofs.state.write_fresh.Tie as tie
+use Rattle.records.proofs.state.write_fresh.Reads as reads
+use Rattle.records.proofs.state.write_fresh.Lts as lts
+use Rattle.octets.proofs.put8.Reads as put8-reads
+use Rattle.states.proofs.header.write_fresh.Reads as write-fresh-reads
 
-clear-requires : tie.Need-clear-requires
-clear-requires c κs = search needs
+write-fresh-requires : tie.Need-write-fresh-requires
+write-fresh-requires c κs = search needs
 
 put8-requires : tie.Need-put8-requires
 put8-requires c κs = search needs
-
-put8-requires-2 : tie.Need-put8-requires-2
-put8-requires-2 c κs = search needs
 
 same-length : tie.Need-same-length
 same-length c = search needs
 
 returns : tie.Need-returns
 unfolding freshState
-returns c = fresh-put _ (c .before .before .before .before .before .before .before .before .before .before .before .before .before .args .committee .faults) (c .before .before .before .before .before .before .before .before .before .before .before .before .before .args .own .0) 4614 (c .before .before .before .before .before .before .before .before .before .before .before .before .before .pre .0) (c .before .before .before .before .before .before .before .before .before .before .clear .ensures) (c .before .before .before .before .before .before .put8 .ensures) (c .before .before .put82 .ensures)
+returns c = own-put (c .before .before .before .before .before .before .before .before .before .args .committee .faults) (c .before .before .before .before .before .before .before .before .before .args .own .0) 4614 (rw (c .before .before .before .before .before .before .before .before .before .pre .0) at (c .before .before .before .before .before .before .write-fresh .ensures)) (c .before .before .put8 .ensures)
 
 pub write-fresh-spec : {M : Type 1} → statement M
-write-fresh-spec =
-    tie.close (tie.spec clear-requires put8-requires put8-requires-2 same-length returns)
+write-fresh-spec = tie.close (tie.spec write-fresh-requires put8-requires same-length returns)
