@@ -27,7 +27,7 @@ use wire::kinds::Payment;
 use wire::kinds::Sequence;
 
 pub mod answers;
-pub mod log;
+mod log;
 pub mod state;
 
 pub fn make_fresh(s: &mut [u8], committee: Committee) -> FreshAnswer

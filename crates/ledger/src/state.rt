@@ -8,11 +8,11 @@ use states::header;
 pub const LENGTH: usize = 32784;
 
 // Where the logs start, and how long each is.
-pub const LOGS: usize = 16;
+pub(crate) const LOGS: usize = 16;
 
-pub const LOG: usize = 512;
+pub(crate) const LOG: usize = 512;
 
-pub const MOST_POT: u64 = 1_000_000_000_000_000;
+pub(crate) const MOST_POT: u64 = 1_000_000_000_000_000;
 
 // Whether length and header are as they should be.
 pub(crate) fn formed(s: &[u8]) -> bool

@@ -1,4 +1,5 @@
-// Writes messages, reads them back, runs a settlement machine, and shows what is refused and why.
+// Writes messages, reads them back, runs a settlement machine and the ledger, and shows what is refused and why.
+mod desk;
 mod papers;
 mod say;
 mod yard;
@@ -85,20 +86,13 @@ fn ordered() {
 
 // A certificate with f = 1 and the first `size` bytes of these votes is written and judged.
 fn certify(a: u8, b: u8, c: u8, size: usize, verdicts: &[u8]) {
-    let mut body = [0u8; 57];
-    let length = papers::made(writing::write_body(&mut body, papers::payment_of(1500, 0), b""));
     let run = papers::run_of(a, b, c);
-    let mut space = [0u8; 512];
-    let n = papers::made(writing::write_certificate(
-        1,
-        &mut space,
-        say::front(&body, length),
-        say::front(&run, size),
-    ));
-    if n == 0 {
+    let paper = papers::certificate(papers::payment_of(1500, 0), say::front(&run, size));
+    if paper.length == 0 {
         return;
     }
-    show_certificate(certificate::judge_certificate(1, say::front(&space, n), verdicts));
+    let bytes = paper.bytes;
+    show_certificate(certificate::judge_certificate(1, say::front(&bytes, paper.length), verdicts));
 }
 
 fn certificates() {
@@ -129,4 +123,6 @@ fn main() {
     yard::morning();
     say::text(b"Another one, to which the certificate comes before its funding\n");
     yard::late_funding();
+    say::text(b"The purchase ledger, f = 1\n");
+    desk::morning();
 }

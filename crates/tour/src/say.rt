@@ -2,6 +2,7 @@
 ghost use mathlib.Core.Path.{_≡_};
 ghost use lib.ListN.{take};
 use libc::STDOUT_FILENO;
+use states::answers::FreshAnswer;
 use wire::answers::Refusal;
 use wire::kinds::Funding;
 use wire::kinds::Payment;
@@ -81,7 +82,11 @@ fn reason(n: u64) {
         10 => text(b": not the next sequence\n"),
         11 => text(b": the balance is too low\n"),
         12 => text(b": not the next funding index\n"),
+        13 => text(b": not a payment to the ledger\n"),
+        14 => text(b": already redeemed\n"),
+        15 => text(b": more than the pot holds\n"),
         16 => text(b": the state is not well formed\n"),
+        17 => text(b": no funding index is left\n"),
         18 => text(b": the output is too small\n"),
         _ => text(b"\n"),
     }
@@ -91,4 +96,11 @@ pub(crate) fn refused(refusal: Refusal) {
     let n = refusal.number();
     number(b"    refused ", n);
     reason(n);
+}
+
+pub(crate) fn fresh(answer: FreshAnswer) {
+    match answer {
+        FreshAnswer::Made => text(b"    made\n"),
+        FreshAnswer::Refused(refusal) => refused(refusal),
+    }
 }

@@ -6,17 +6,9 @@ use records::answers::ConfirmAnswer;
 use records::answers::CreditAnswer;
 use records::answers::OrderAnswer;
 use records::answers::Reading;
-use states::answers::FreshAnswer;
 use states::committee::Committee;
 use wire::kinds::Account;
 use wire::kinds::Machine;
-
-fn show_fresh(answer: FreshAnswer) {
-    match answer {
-        FreshAnswer::Made => say::text(b"    made\n"),
-        FreshAnswer::Refused(refusal) => say::refused(refusal),
-    }
-}
 
 fn show_vote(answer: OrderAnswer) {
     match answer {
@@ -49,7 +41,7 @@ fn show_account(answer: AccountAnswer) {
 }
 
 fn fresh(state: &mut [u8]) {
-    show_fresh(machine::make_fresh(state, Committee::of(1), Machine(0)));
+    say::fresh(machine::make_fresh(state, Committee::of(1), Machine(0)));
 }
 
 // An order of account 2 to pay account 7.
@@ -67,17 +59,14 @@ fn order(state: &mut [u8], amount: u64, sequence: u64) {
 
 // The certificate of machines 0, 1 and 2 for 1,500 of account 2 to account 7.
 fn certificate(state: &mut [u8]) {
-    let mut body = [0u8; 57];
-    let length = papers::made(writing::write_body(&mut body, papers::payment_of(1500, 0), b""));
     let run = papers::run_of(0, 1, 2);
-    let mut space = [0u8; 512];
-    let n = papers::made(writing::write_certificate(
-        1,
-        &mut space,
-        say::front(&body, length),
-        &run,
+    let paper = papers::certificate(papers::payment_of(1500, 0), &run);
+    let bytes = paper.bytes;
+    show_confirmed(machine::handle_certificate(
+        state,
+        say::front(&bytes, paper.length),
+        b"\x01\x01\x01",
     ));
-    show_confirmed(machine::handle_certificate(state, say::front(&space, n), b"\x01\x01\x01"));
 }
 
 // A funding order of 2,000 for account 2.

@@ -1,9 +1,13 @@
-use native.Mathlib.Omega.{arith}
-use Rattle.ledger.proofs.Facts.{bit-value, bit-fits}
 use Rattle.ledger.specs.States.{withRedeemed}
 use borrow.Author.Needs.{needs}
 use Rattle.ledger.proofs.log.redeem.Statement.{statement}
 use Rattle.ledger.proofs.log.redeem.Tie as tie
+use Rattle.ledger.proofs.log.redeem.Reads as reads
+use Rattle.ledger.proofs.log.redeem.Lts as lts
+use Rattle.ledger.proofs.log.marked.Reads as marked-reads
+use Rattle.ledger.proofs.log.place.Reads as place-reads
+use Rattle.octets.proofs.get8.Reads as get8-reads
+use Rattle.octets.proofs.put8.Reads as put8-reads
 
 place-requires : tie.Need-place-requires
 place-requires c κs = search needs
@@ -11,19 +15,20 @@ place-requires c κs = search needs
 get8-requires : tie.Need-get8-requires
 get8-requires c κs = search needs
 
-shl-put8 : tie.Need-shl-put8
-shl-put8 c = search needs
+marked-requires : tie.Need-marked-requires
+marked-requires c κs = search needs
 
 put8-requires : tie.Need-put8-requires
-put8-requires c κs = (omega (arith, c .before .before .before .before .before .before .pre .0, c .before .before .before .before .place .ensures .1), rw (bit-value (c .before .before .before .before .before .before .args .sequence .0)) (bit-fits _ (c .before .before .before .before .before .before .args .sequence .0) (c .before .before .get8 .ensures .1)))
+put8-requires c κs = search needs
 
 same-length : tie.Need-same-length
 same-length c = search needs
 
 returns : tie.Need-returns
 unfolding withRedeemed
-returns c = rw (← c .before .before .before .before .before .before .before .place .ensures .0, ← c .before .before .before .before .before .get8 .ensures .0, ← bit-value (c .before .before .before .before .before .before .before .before .before .args .sequence .0)) (c .before .before .put8 .ensures)
+returns c = rw (← c .before .before .before .before .before .before .before .place .ensures .0, ← c .before .before .before .before .before .get8 .ensures .0, ← c .before .before .before .marked .ensures .0) (c .before .before .put8 .ensures)
 
 pub redeem-spec : {M : Type 1} → statement M
 redeem-spec =
-    tie.close (tie.spec place-requires get8-requires shl-put8 put8-requires same-length returns)
+    tie.close
+    (tie.spec place-requires get8-requires marked-requires put8-requires same-length returns)
