@@ -23,7 +23,7 @@ use Rattle.ledger.specs.Calls.{fresh, fund, pay, redeem}
 use Rattle.bookkeeping.specs.Meaning.{Lays, Call, after, afterAll, unlessRefused, orderGiven, amountFunded, amountPaid, total, areFundings, Balanced}
 use Rattle.bookkeeping.specs.Outcomes.{fresh-comes, fund-comes, redeem-comes}
 use Rattle.bookkeeping.specs.Keeping.{base-lays, state-room, index-written, pot-written, pot-leaves-index, log-leaves-index, fresh-index, fresh-pot, withIndex-keeps, withPot-keeps, withRedeemed-keeps}
-use Rattle.bookkeeping.specs.Theorems.{fresh-formed}
+use Rattle.bookkeeping.specs.Theorems.{fresh-formed, fund-others, redeem-logs, redeem-stays, redeemed-unpaid}
 
 -- the same books, with numbers that are equal to theirs
 recounted : {rules : Rules} {s : List ℕ} {orders funding paid orders′ funding′ paid′ : ℕ} → Balanced rules s orders funding paid
@@ -158,3 +158,23 @@ pub fundings-exhaust : (s : List ℕ) (f : ℕ) (calls : List Call) (out : List 
     → (let t = afterAll base (fresh base s f .state) calls in fund base t out account amount ≡ unfunded 17 t out)
 fundings-exhaust s f calls out account amount h each all a v =
     fund-exhausted out account amount (run-balanced s f calls h) a v (fundings-fit s f calls h each (omega arith) ∙ all)
+
+-- what is in the log stays there, whatever calls follow
+pub run-logged : (rules : Rules) → Lays rules → (s : List ℕ) (calls : List Call) (account sequence : ℕ) → sequence ≤ 4_095
+    → isRedeemed rules s account sequence ≡ true → isRedeemed rules (afterAll rules s calls) account sequence ≡ true
+unfolding afterAll
+run-logged rules l s [] account sequence h e = e
+run-logged rules l s (Call.funding out a amount ∷ calls) account sequence h e =
+    run-logged rules l _ calls account sequence h (fund-others rules l s out a amount account sequence ∙ e)
+run-logged rules l s (Call.redeeming m verdicts ∷ calls) account sequence h e =
+    run-logged rules l _ calls account sequence h (redeem-stays rules l s m verdicts account sequence h e)
+
+-- so one sequence of an account is paid once: after it was, whatever calls come between, no certificate for it is paid again
+pub paid-once : (rules : Rules) → Lays rules → (s m verdicts : List ℕ) (calls : List Call) (n others : List ℕ) → redeem rules s m verdicts .answer .number ≡ 0
+    → payment (inside n) .sender .0 ≡ payment (inside m) .sender .0 → payment (inside n) .sequence .0 ≡ payment (inside m) .sequence .0
+    → redeem rules (afterAll rules (redeem rules s m verdicts .state) calls) n others .answer .number ≡ 0 → ⊥
+paid-once rules l s m verdicts calls n others h account sequence =
+    let fits : payment (inside m) .sequence .0 ≤ 4_095 =
+    redeem-comes (λ o. o .answer .number ≡ 0 → payment (inside m) .sequence .0 ≤ 4_095) rules s m verdicts (λ n h e. absurd (omega arith)) (λ v _. v .range .sequence) h in
+    redeemed-unpaid rules _ n others
+    (rw (account, sequence) (run-logged rules l (redeem rules s m verdicts .state) calls _ _ fits (redeem-logs rules l s m verdicts h)))

@@ -68,16 +68,14 @@ pub fn fund(s: &mut [u8], out: &mut [u8], account: Account, amount: u64) -> Fund
         return FundAnswer::Refused(Refusal::BadState);
     }
     let index = FundingIndex(last.0 + 1);
+    let order = Funding {
+        index,
+        account,
+        amount,
+    };
     header::put_index(s, index);
     state::put_pot(s, pot);
-    writing::write_funding(
-        out,
-        Funding {
-            index,
-            account,
-            amount,
-        },
-    );
+    writing::write_funding(out, order);
     FundAnswer::Funded(index)
 }
 

@@ -1,7 +1,6 @@
-use Rattle.wire.proofs.Ranges.{amount-most}
-use Rattle.ledger.specs.States.{base}
 use Rattle.ledger.proofs.Facts.{state-length, state-pot, next-in-range, funding-left, funds-same}
-use Rattle.ledger.proofs.Facts.{state-length, state-pot, next-in-range, funding-left}
+use Rattle.ledger.specs.States.{base}
+use Rattle.wire.proofs.Ranges.{amount-most}
 use Rattle.ledger.specs.Calls.{fund}
 use Rattle.octets.proofs.Laws.{length-put}
 use borrow.Author.Tests.{not-true, not-false, lt-leb, le-leb, lt-ltb, le-ltb}
@@ -71,8 +70,8 @@ returns-6 : tie.Need-returns-6
 unfolding fund
 returns-6 c = simp (← c .before .before .before .before .before .before .before .before .before .before .before .before .before .formed .ensures, not-false (c .before .before .before .before .before .before .before .before .before .before .before .before .before .formed .result) (c .before .before .before .before .before .before .before .before .before .before .before .before .if1 .left), ← c .before .before .before .before .before .before .before .before .before .before .before .in-range .ensures, not-false (c .before .before .before .before .before .before .before .before .before .before .before .in-range .result) (c .before .before .before .before .before .before .before .before .before .before .if2 .left), ← c .before .before .before .before .before .before .before .before .before .amount-in-range .ensures, not-false (c .before .before .before .before .before .before .before .before .before .amount-in-range .result) (c .before .before .before .before .before .before .before .before .if3 .left), ← c .before .before .before .before .before .before .last-index .ensures .0, lt-ltb _ _ (c .before .before .before .before .if4 .left), le-leb _ _ (c .before .before .before .if5 .left), ← c .before .pot .ensures, lt-leb _ _ (c .if6 .taken))
 
-add-t20 : tie.Need-add-t20
-add-t20 c = search needs
+add-t21 : tie.Need-add-t21
+add-t21 c = search needs
 
 put-index-requires : tie.Need-put-index-requires
 put-index-requires c κs = (omega (arith, state-length base _ (sym (c .before .before .before .before .before .before .before .before .before .before .before .before .before .before .before .formed .ensures) ∙ not-false (c .before .before .before .before .before .before .before .before .before .before .before .before .before .before .before .formed .result) (c .before .before .before .before .before .before .before .before .before .before .before .before .before .before .if1 .left))), omega (arith, c .before .before .before .before .before .before .if4 .left))
@@ -116,7 +115,7 @@ fund-spec =
     add-pot
     same-length-6
     returns-6
-    add-t20
+    add-t21
     put-index-requires
     put-pot-requires
     write-funding-requires
