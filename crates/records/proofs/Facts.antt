@@ -32,12 +32,12 @@ in-range used waiting next balance e =
     let c = both (leb next 4_096) _ (b .1) in
     record { used-most = leb-true _ _ (a .0); waiting-most = leb-true _ _ (b .0); next-most = leb-true _ _ (c .0); balance-most = leb-true _ _ (c .1) }
 
--- a well-formed record can be written again
 -- twelve bytes stand before the pending body
 pub length-head : (used : Bool) (waiting next balance : ℕ) → length (headBytes used waiting next balance) ≡ 12
 unfolding headBytes
 length-head used waiting next balance = simp (length-append, length-bytes)
 
+-- a well-formed record can be written again
 pub formed-fits : (account : ℕ) (s : List ℕ) (at : ℕ) → isRecord account s at ≡ true → Fits (recordAt s at)
 unfolding isRecord recordAt
 formed-fits account s at e =

@@ -9,10 +9,8 @@ use lib.Dec.{leb, lit<}
 use borrow.Author.Tests.{leb-true}
 use Rattle.octets.specs.Octets.{put}
 use Rattle.wire.specs.Fields.{need}
-use Rattle.wire.specs.Refusals.{Said, gives, paymentValues, fundingValues}
+use Rattle.wire.specs.Refusals.{Said, gives}
 use Rattle.wire.specs.Writers.{Written, unwritten, writes}
-use Rattle.wire.specs.declared.kinds.Payment.{Payment}
-use Rattle.wire.specs.declared.kinds.Funding.{Funding}
 use Rattle.writing.proofs.Written.{writes-room}
 
 -- an outcome that is no refusal passed the test before it

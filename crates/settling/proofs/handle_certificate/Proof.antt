@@ -1,11 +1,5 @@
-use Prim.Native.Nat.{ℕ}
-use mathlib.Core.Bool.{true}
-use mathlib.Core.List.{List}
-use Rattle.octets.specs.Octets.{one, number}
-use Rattle.wire.specs.Refusals.{Said}
 use Rattle.wire.specs.Votes.{committee}
-use Rattle.wire.specs.Readers.{judged, judgedBy}
-use Rattle.records.specs.States.{base, isState}
+use Rattle.records.specs.States.{base}
 use Rattle.records.proofs.Facts.{state-faults, state-length}
 use Rattle.states.proofs.Unless.{passed-on, goes-on, judged-by}
 use native.Mathlib.Omega.{arith}

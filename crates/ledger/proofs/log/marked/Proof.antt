@@ -4,8 +4,6 @@ use mathlib.Core.Path.{ap}
 use borrow.Author.Needs.{needs}
 use Rattle.ledger.proofs.log.marked.Statement.{statement}
 use Rattle.ledger.proofs.log.marked.Tie as tie
-use Rattle.ledger.proofs.log.marked.Reads as reads
-use Rattle.ledger.proofs.log.marked.Lts as lts
 
 shl-result : tie.Need-shl-result
 shl-result c = search needs

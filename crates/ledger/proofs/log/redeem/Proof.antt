@@ -2,12 +2,6 @@ use Rattle.ledger.specs.States.{withRedeemed}
 use borrow.Author.Needs.{needs}
 use Rattle.ledger.proofs.log.redeem.Statement.{statement}
 use Rattle.ledger.proofs.log.redeem.Tie as tie
-use Rattle.ledger.proofs.log.redeem.Reads as reads
-use Rattle.ledger.proofs.log.redeem.Lts as lts
-use Rattle.ledger.proofs.log.marked.Reads as marked-reads
-use Rattle.ledger.proofs.log.place.Reads as place-reads
-use Rattle.octets.proofs.get8.Reads as get8-reads
-use Rattle.octets.proofs.put8.Reads as put8-reads
 
 place-requires : tie.Need-place-requires
 place-requires c κs = search needs

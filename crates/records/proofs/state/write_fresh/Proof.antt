@@ -3,10 +3,6 @@ use Rattle.records.specs.States.{freshState}
 use borrow.Author.Needs.{needs}
 use Rattle.records.proofs.state.write_fresh.Statement.{statement}
 use Rattle.records.proofs.state.write_fresh.Tie as tie
-use Rattle.records.proofs.state.write_fresh.Reads as reads
-use Rattle.records.proofs.state.write_fresh.Lts as lts
-use Rattle.octets.proofs.put8.Reads as put8-reads
-use Rattle.states.proofs.header.write_fresh.Reads as write-fresh-reads
 
 write-fresh-requires : tie.Need-write-fresh-requires
 write-fresh-requires c κs = search needs
