@@ -9,17 +9,17 @@ use Rattle.wire.specs.Refusals.{Said}
 use Rattle.roundtrip.specs.Determined.{answered-refusal, said-injective}
 use Rattle.invariants.specs.Determined.{determined}
 use Rattle.states.specs.Outcomes.{Outcome, outcome}
-use Rattle.ledger.specs.Answers.{Funds, funds, fundSaid, redeemSaid, potSaid, logSaid}
+use Rattle.ledger.specs.Answers.{FundOutcome, fundOutcome, fundSaid, redeemSaid, potSaid, logSaid}
 use Rattle.ledger.specs.declared.answers.FundAnswer.{FundAnswer}
 use Rattle.ledger.specs.declared.answers.RedeemAnswer.{RedeemAnswer}
 use Rattle.ledger.specs.declared.answers.PotAnswer.{PotAnswer}
 use Rattle.ledger.specs.declared.answers.LogAnswer.{LogAnswer}
 
 -- each takes two results, an answer and the bytes left, that meet the same contract; making a fresh state answers as the machine's does
-pub fund : (promised : Funds) (a b : FundAnswer) (s t out over : List ℕ) → funds (fundSaid a) s out ≡ promised → funds (fundSaid b) t over ≡ promised
+pub fund : (promised : FundOutcome) (a b : FundAnswer) (s t out over : List ℕ) → fundOutcome (fundSaid a) s out ≡ promised → fundOutcome (fundSaid b) t over ≡ promised
     → (a ≡ b) × (s ≡ t) × (out ≡ over)
 fund promised a b s t out over p q =
-    let e : funds (fundSaid a) s out ≡ funds (fundSaid b) t over = p ∙ sym q in
+    let e : fundOutcome (fundSaid a) s out ≡ fundOutcome (fundSaid b) t over = p ∙ sym q in
     let answer : a ≡ b = said-injective fundSaid FundAnswer.Refused (λ vs. FundAnswer.Funded (record { 0 = getD vs 0 0 }))
     (λ a. elim a [ FundAnswer.Funded index ↦ refl | FundAnswer.Refused r ↦ answered-refusal FundAnswer.Refused _ r ]) a b (ap (λ o. o .answer) e) in
     (answer, ap (λ o. o .state) e, ap (λ o. o .out) e)

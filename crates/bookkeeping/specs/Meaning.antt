@@ -9,11 +9,11 @@ use Rattle.octets.specs.Octets.{put}
 use Rattle.wire.specs.Numbers.{isAccount, isAmount}
 use Rattle.states.specs.Headers.{lastIndex, withIndex}
 use Rattle.ledger.specs.States.{Rules, isState, pot, withPot, isPot}
-use Rattle.ledger.specs.Answers.{Funds}
+use Rattle.ledger.specs.Answers.{FundOutcome}
 use Rattle.ledger.specs.Calls.{fund, redeem}
 
 -- a refusal leaves state and output, byte for byte
-abbrev pub LeavesBoth : List ℕ → List ℕ → Funds → Type 0
+abbrev pub LeavesBoth : List ℕ → List ℕ → FundOutcome → Type 0
 LeavesBoth s out o = (o .answer .number ≡ 0 → ⊥) → (o .state ≡ s) × (o .out ≡ out)
 
 -- rules whose header has the index in its bytes 2 and 3 and the pot in the eight behind them, and is judged neither by the index nor by

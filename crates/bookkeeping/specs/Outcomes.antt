@@ -18,7 +18,7 @@ use Rattle.states.specs.Headers.{lastIndex, withIndex}
 use Rattle.states.specs.Outcomes.{Outcome, outcome, refused, done}
 use Rattle.invariants.specs.Outcomes.{need-case, cond-case, certificate-body, body-range}
 use Rattle.ledger.specs.States.{Rules, stateLength, isState, pot, withPot, isPot, isRedeemed, withRedeemed, freshState}
-use Rattle.ledger.specs.Answers.{Funds, funds, unfunded, funded, paid}
+use Rattle.ledger.specs.Answers.{FundOutcome, fundOutcome, unfunded, funded, paid}
 use Rattle.ledger.specs.Calls.{fresh, fund, nextFunding, pay, redeem}
 
 -- the bytes after funding, and after a payment out of the pot
@@ -55,9 +55,9 @@ fresh-comes P rules s f refusal made =
     made (leb-true _ _ a)))
 
 -- what holds of every refusal, and of a funding order given, holds of what fund comes to
-pub fund-comes : (P : Funds → Type 0) (rules : Rules) (s out : List ℕ) (account amount : ℕ) → ((n : ℕ) → 0 < n → P (unfunded n s out))
+pub fund-comes : (P : FundOutcome → Type 0) (rules : Rules) (s out : List ℕ) (account amount : ℕ) → ((n : ℕ) → 0 < n → P (unfunded n s out))
     → (MayFund rules s out account amount
-    → P (funds (funded (lastIndex s + 1)) (afterFund s amount) (put out 0 (fundingBytes (nextFunding s account amount)))))
+    → P (fundOutcome (funded (lastIndex s + 1)) (afterFund s amount) (put out 0 (fundingBytes (nextFunding s account amount)))))
     → P (fund rules s out account amount)
 unfolding fund
 fund-comes P rules s out account amount refusal given =

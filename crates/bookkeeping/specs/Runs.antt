@@ -7,7 +7,7 @@ use native.Mathlib.Omega.{arith}
 use lib.ListN.{length, getD}
 use lib.Dec.{leb, ltb, eqb, lit≤}
 use borrow.Author.Tests.{leb-true, le-leb, lt-ltb, ne-eqb}
-use Rattle.wire.specs.Numbers.{isAccount, isAmount}
+use Rattle.wire.specs.Numbers.{isAccount, isAmount, isSequence}
 use Rattle.wire.specs.Messages.{payment, inside}
 use Rattle.wire.specs.Readers.{judgedBy}
 use Rattle.wire.specs.Refusals.{Said}
@@ -15,11 +15,11 @@ use Rattle.wire.proofs.FieldLaws.{both}
 use Rattle.wire.proofs.Ranges.{amount-most}
 use Rattle.states.specs.Headers.{lastIndex, withIndex}
 use Rattle.states.specs.Outcomes.{Outcome}
-use Rattle.invariants.specs.Outcomes.{need-case}
+use Rattle.invariants.specs.Outcomes.{need-case, cond-case}
 use Rattle.invariants.specs.Bounds.{below, holds, either, judged}
 use Rattle.ledger.specs.States.{Rules, base, isState, pot, withPot, isPot, isRedeemed, withRedeemed}
-use Rattle.ledger.specs.Answers.{Funds, unfunded, funded}
-use Rattle.ledger.specs.Calls.{fresh, fund, pay, redeem}
+use Rattle.ledger.specs.Answers.{FundOutcome, unfunded, funded}
+use Rattle.ledger.specs.Calls.{fresh, fund, pay, redeem, readPot, readLog}
 use Rattle.bookkeeping.specs.Meaning.{Lays, Call, after, afterAll, unlessRefused, orderGiven, amountFunded, amountPaid, total, areFundings, Balanced}
 use Rattle.bookkeeping.specs.Outcomes.{fresh-comes, fund-comes, redeem-comes}
 use Rattle.bookkeeping.specs.Keeping.{base-lays, state-room, index-written, pot-written, pot-leaves-index, log-leaves-index, fresh-index, fresh-pot, withIndex-keeps, withPot-keeps, withRedeemed-keeps}
@@ -99,7 +99,7 @@ pub fund-never-16 : {s : List ℕ} {orders funding paid : ℕ} (out : List ℕ) 
     → fund base s out account amount .answer .number ≡ 16 → ⊥
 unfolding fund
 fund-never-16 {s} out account amount b =
-    let P : Funds → Type 0 = λ o. o .answer .number ≡ 16 → ⊥ in
+    let P : FundOutcome → Type 0 = λ o. o .answer .number ≡ 16 → ⊥ in
     rw (b .state)
     (need-case P (isAccount account) _ _ (λ e. omega arith) (λ _.
     need-case P (isAmount amount) _ _ (λ e. omega arith) (λ v.
@@ -120,6 +120,20 @@ redeem-never-16 {s} m verdicts b e =
     either told (isRedeemed base s (p .sender .0) (p .sequence .0)) _ _ (lit≤ tt) (λ _.
     below told (leb (p .amount) (pot s)) _ _ (lit≤ tt) (λ _. lit≤ tt))))) in
     omega arith
+
+pub pot-never-16 : {s : List ℕ} {orders funding paid : ℕ} → Balanced base s orders funding paid → readPot base s .number ≡ 16 → ⊥
+unfolding readPot
+pot-never-16 b = rw (b .state) (λ e. omega arith)
+
+pub log-never-16 : {s : List ℕ} {orders funding paid : ℕ} (account sequence : ℕ) → Balanced base s orders funding paid
+    → readLog base s account sequence .number ≡ 16 → ⊥
+unfolding readLog
+log-never-16 {s} account sequence b =
+    let P : Said → Type 0 = λ x. x .number ≡ 16 → ⊥ in
+    rw (b .state)
+    (need-case P (isAccount account) _ _ (λ e. omega arith) (λ _.
+    need-case P (isSequence sequence) _ _ (λ e. omega arith) (λ _.
+    cond-case P (isRedeemed base s account sequence) _ _ (λ _ e. omega arith) (λ _ e. omega arith))))
 
 -- 65,535 funding orders fit: below that number each one that is asked for in range is given, and 17 follows
 pub fund-fits : {s : List ℕ} {orders funding paid : ℕ} (out : List ℕ) (account amount : ℕ) → Balanced base s orders funding paid

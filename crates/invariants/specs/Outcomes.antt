@@ -8,7 +8,7 @@ use lib.ListN.{length}
 use lib.Dec.{leb, ltb, eqb, lit<}
 use borrow.Author.Tests.{leb-true, ltb-false, eqb-true, eqb-false, eq-eqb}
 use Rattle.octets.specs.Octets.{same}
-use Rattle.wire.specs.Numbers.{isFaults}
+use Rattle.wire.specs.Numbers.{isFaults, isMachine}
 use Rattle.wire.specs.Fields.{need, laid}
 use Rattle.wire.specs.Messages.{bodyFields, orderFields, certificateFields, fundingFields, payment, inside, isPayment, funding, isFunding}
 use Rattle.wire.specs.Votes.{Committee, signersIn, good}
@@ -115,9 +115,9 @@ pub fresh-comes : (P : Outcome → Type 0) (rules : Rules) (s : List ℕ) (f own
 unfolding fresh
 fresh-comes P rules s f own refusal made =
     need-case P (eqb (length s) (stateLength rules)) _ _ (refusal 16 (lit< tt)) (λ _.
-    need-case P (isFaults f) _ _ (refusal 2 (lit< tt)) (λ a.
-    need-case P (leb own (3 * f)) _ _ (refusal 2 (lit< tt)) (λ b.
-    made (leb-true _ _ a) (leb-true _ _ b))))
+    need-case P (isMachine f own) _ _ (refusal 2 (lit< tt)) (λ a.
+    let t = both (isFaults f) (leb own (3 * f)) a in
+    made (leb-true _ _ (t .0)) (leb-true _ _ (t .1))))
 
 -- what holds of every answer that leaves the bytes, and of those that change them, holds of what a call comes to
 module _ (P : Outcome → Type 0) (rules : Rules) (s : List ℕ) (left : (answer : Said) → P (outcome answer s)) where

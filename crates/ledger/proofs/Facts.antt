@@ -21,7 +21,7 @@ use Rattle.wire.proofs.FieldLaws.{both}
 use Rattle.writing.proofs.Written.{length-funding}
 use Rattle.states.specs.Headers.{faultsIn}
 use Rattle.ledger.specs.States.{Rules, base, stateLength, isState, isBaseHeader, pot, isPot, value}
-use Rattle.ledger.specs.Answers.{funds}
+use Rattle.ledger.specs.Answers.{fundOutcome}
 
 pub state-length : (rules : Rules) (s : List ℕ) → isState rules s ≡ true → length s ≡ stateLength rules
 unfolding isState
@@ -61,5 +61,5 @@ unfolding writeFunding writes
 funding-left out left o answer h room e = ap (λ w. w .out) (rw (h, length-funding o, le-leb _ _ room) at e)
 
 -- equal bytes in state and output under one answer
-pub funds-same : {said : Said} {s t out over : List ℕ} → s ≡ t → out ≡ over → funds said s out ≡ funds said t over
-funds-same {said = said} e o = λ i. funds said (e i) (o i)
+pub outcome-same : {said : Said} {s t out over : List ℕ} → s ≡ t → out ≡ over → fundOutcome said s out ≡ fundOutcome said t over
+outcome-same {said = said} e o = λ i. fundOutcome said (e i) (o i)

@@ -49,15 +49,15 @@ logSaid LogAnswer.Unredeemed = unredeemed
 logSaid (LogAnswer.Refused r) = refuses (refusalNumber r)
 
 -- an answer, and the state and the output afterwards
-pub record Funds : Type 0 where
+pub record FundOutcome : Type 0 where
   pub answer : Said
   pub state : List ℕ
   pub out : List ℕ
 
 -- the three together, as a contract states them
-abbrev pub funds : Said → List ℕ → List ℕ → Funds
-funds said s out = record { answer = said; state = s; out = out }
+abbrev pub fundOutcome : Said → List ℕ → List ℕ → FundOutcome
+fundOutcome said s out = record { answer = said; state = s; out = out }
 
 -- a refusal changes neither
-abbrev pub unfunded : ℕ → List ℕ → List ℕ → Funds
-unfunded n s out = funds (refuses n) s out
+abbrev pub unfunded : ℕ → List ℕ → List ℕ → FundOutcome
+unfunded n s out = fundOutcome (refuses n) s out

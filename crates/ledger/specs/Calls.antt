@@ -15,7 +15,7 @@ use Rattle.wire.specs.declared.kinds.Funding.{Funding}
 use Rattle.states.specs.Headers.{lastIndex, withIndex}
 use Rattle.states.specs.Outcomes.{Outcome, outcome, refused, unless, done}
 use Rattle.ledger.specs.States.{Rules, stateLength, isState, pot, withPot, isPot, isRedeemed, withRedeemed, freshState}
-use Rattle.ledger.specs.Answers.{Funds, funds, unfunded, funded, paid, holds, redeemed, unredeemed}
+use Rattle.ledger.specs.Answers.{FundOutcome, fundOutcome, unfunded, funded, paid, holds, redeemed, unredeemed}
 
 -- making a fresh state refuses a wrong length (16), then f out of range (2)
 unfoldable pub fresh : Rules → List ℕ → ℕ → Outcome
@@ -30,7 +30,7 @@ nextFunding s account amount = record { index = record { 0 = lastIndex s + 1 }; 
 
 -- fund: 16, 2, 17, 18, then 16 on the new pot; otherwise raise index and pot and write the funding order into the first 16 bytes of
 -- the output
-unfoldable pub fund : Rules → List ℕ → List ℕ → ℕ → ℕ → Funds
+unfoldable pub fund : Rules → List ℕ → List ℕ → ℕ → ℕ → FundOutcome
 fund rules s out account amount =
     need (isState rules s) (unfunded 16 s out)
     (need (isAccount account) (unfunded 2 s out)
@@ -38,7 +38,7 @@ fund rules s out account amount =
     (need (ltb (lastIndex s) 65_535) (unfunded 17 s out)
     (need (leb 16 (length out)) (unfunded 18 s out)
     (need (isPot (pot s + amount)) (unfunded 16 s out)
-    (funds (funded (lastIndex s + 1))
+    (fundOutcome (funded (lastIndex s + 1))
     (withPot (withIndex s (lastIndex s + 1)) (pot s + amount))
     (put out 0 (fundingBytes (nextFunding s account amount)))))))))
 

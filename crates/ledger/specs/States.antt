@@ -44,11 +44,11 @@ stateLength rules = rules .logs + 32_768
 unfoldable pub isState : Rules → List ℕ → Bool
 isState rules s = eqb (length s) (stateLength rules) && rules .isHeader s
 
--- where the byte with an account's sequence stands: byte s / 8 of its log of 512
+-- where the byte with an account's sequence stands: byte sequence / 8 of its log of 512
 abbrev pub place : Rules → ℕ → ℕ → ℕ
 place rules account sequence = rules .logs + 512 * account + sequence / 8
 
--- sequence s of an account is the bit of value 2^(s mod 8) in that byte
+-- the sequence is the bit of value 2^(sequence mod 8) in that byte
 abbrev pub value : ℕ → ℕ
 value sequence = 2 ^ (sequence % 8)
 

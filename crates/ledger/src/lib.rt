@@ -5,7 +5,7 @@ ghost use lib.ListN.{length};
 ghost use Rattle.wire.specs.Messages.{isPayment};
 ghost use Rattle.states.specs.Outcomes.{outcome, freshSaid};
 ghost use Rattle.ledger.specs.States.{base};
-ghost use Rattle.ledger.specs.Answers.{funds, fundSaid, redeemSaid, potSaid, logSaid};
+ghost use Rattle.ledger.specs.Answers.{fundOutcome, fundSaid, redeemSaid, potSaid, logSaid};
 ghost use Rattle.ledger.specs.Calls as calls;
 use crate::answers::FundAnswer;
 use crate::answers::LogAnswer;
@@ -45,7 +45,7 @@ pub fn make_fresh(s: &mut [u8], committee: Committee) -> FreshAnswer
 
 // Writes the next funding order into the first 16 bytes of the output.
 pub fn fund(s: &mut [u8], out: &mut [u8], account: Account, amount: u64) -> FundAnswer
-    ensures { λ r. ⌜ funds (fundSaid r) (now (s .exit)) (now (out .exit)) ≡ calls.fund base (now (s .entry)) (now (out .entry)) (account .0) amount ⌝ }
+    ensures { λ r. ⌜ fundOutcome (fundSaid r) (now (s .exit)) (now (out .exit)) ≡ calls.fund base (now (s .entry)) (now (out .entry)) (account .0) amount ⌝ }
 {
     if !state::formed(s) {
         return FundAnswer::Refused(Refusal::BadState);
@@ -75,6 +75,7 @@ pub fn fund(s: &mut [u8], out: &mut [u8], account: Account, amount: u64) -> Fund
     };
     header::put_index(s, index);
     state::put_pot(s, pot);
+    // Range and room were tested: the writer does not refuse.
     writing::write_funding(out, order);
     FundAnswer::Funded(index)
 }

@@ -33,9 +33,6 @@ pub fn make_fresh(s: &mut [u8], committee: Committee, own: Machine) -> FreshAnsw
     if s.len() != state::LENGTH {
         return FreshAnswer::Refused(Refusal::BadState);
     }
-    if !committee.in_range() {
-        return FreshAnswer::Refused(Refusal::OutOfRange);
-    }
     if !committee.seats(own) {
         return FreshAnswer::Refused(Refusal::OutOfRange);
     }

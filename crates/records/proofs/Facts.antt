@@ -76,4 +76,4 @@ state-length s e = eqb-true _ _ (both _ _ e .0)
 
 pub state-faults : (s : List ℕ) → isState base s ≡ true → isFaults (number one s 0) ≡ true
 unfolding isState isBaseHeader
-state-faults s e = let tests = simp and-eq-true-iff at e in tests .1 .0
+state-faults s e = let tests = simp and-eq-true-iff at e in tests .1 .0 .0

@@ -1,13 +1,13 @@
 -- 01, Rules: what each call answers, and every byte of the state afterwards, under the rules in force.
 -- The order of checks: 16 on length and header; 1 on the whole message; 2; 3; 4 for a single verdict; then over all votes 5, then 6,
 -- then 4, then 7; then 16 on touched records; then the rules in their order; 16 on new values last.
-use Prim.Native.Nat.{ℕ, _+_, _*_}
+use Prim.Native.Nat.{ℕ, _+_}
 use mathlib.Core.Bool.{Bool, _&&_, _||_, cond}
 use mathlib.Core.List.{List, [], _∷_}
 use lib.ListN.{length}
 use lib.Dec.{leb, ltb, eqb}
 use Rattle.octets.specs.Octets.{same}
-use Rattle.wire.specs.Numbers.{isFaults, isAccount}
+use Rattle.wire.specs.Numbers.{isMachine, isAccount}
 use Rattle.wire.specs.Fields.{need}
 use Rattle.wire.specs.Messages.{payment, inside, funding}
 use Rattle.wire.specs.Votes.{signersIn, good}
@@ -27,9 +27,8 @@ use Rattle.records.specs.Answers.{voteNew, voteRepeated, confirmed, alre
 unfoldable pub fresh : Rules → List ℕ → ℕ → ℕ → Outcome
 fresh rules s f own =
     need (eqb (length s) (stateLength rules)) (refused 16 s)
-    (need (isFaults f) (refused 2 s)
-    (need (leb own (3 * f)) (refused 2 s)
-    (outcome done (freshState rules f own))))
+    (need (isMachine f own) (refused 2 s)
+    (outcome done (freshState rules f own)))
 
 -- the order's rules on its sender's record: refuse 8. If a body is pending: equal bytes answer vote, repeated, no change;
 -- otherwise 9. Then 10, 11. Otherwise store the body as pending and answer vote, new

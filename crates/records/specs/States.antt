@@ -3,9 +3,9 @@ use Prim.Native.Nat.{ℕ, _+_, _*_}
 use mathlib.Core.Bool.{Bool, _&&_}
 use mathlib.Core.List.{List, _++_}
 use lib.ListN.{length, replicate}
-use lib.Dec.{leb, eqb}
+use lib.Dec.{eqb}
 use Rattle.octets.specs.Octets.{one, number, bytes, cut, put, allZero}
-use Rattle.wire.specs.Numbers.{isFaults}
+use Rattle.wire.specs.Numbers.{isMachine}
 use Rattle.wire.specs.Votes.{Committee, committee}
 use Rattle.states.specs.Headers.{faultsIn}
 use Rattle.records.specs.Records.{recordAt, recordBytes, isRecord, pendingAt}
@@ -21,7 +21,7 @@ pub record Rules : Type 0 where
 
 -- f; own number; last funding index (2); four zeros
 unfoldable pub isBaseHeader : List ℕ → Bool
-isBaseHeader s = isFaults (faultsIn s) && (leb (number one s 1) (3 * faultsIn s) && allZero (cut s 4 4))
+isBaseHeader s = isMachine (faultsIn s) (number one s 1) && allZero (cut s 4 4)
 
 -- the rules of 01
 abbrev pub base : Rules

@@ -18,9 +18,6 @@ pub fn formed(s: &[u8]) -> bool
         return false;
     }
     let committee = header::committee(s);
-    if !committee.in_range() {
-        return false;
-    }
     if !committee.seats(Machine(octets::get8(s, 1))) {
         return false;
     }

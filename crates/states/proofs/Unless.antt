@@ -1,4 +1,4 @@
--- What a call does with the answer of a reader: a refusal is passed on, and with values it goes on. Assumes nothing.
+-- What a call does with the answer of a reader or a judge: a refusal is passed on, and with values it goes on. Assumes nothing.
 use mathlib.Core.Path.{_≡_, refl, _∙_}
 use mathlib.Core.Bool.{true, false}
 use mathlib.Core.List.{List}

@@ -1,8 +1,6 @@
 // Who may vote: 3f + 1 machines, of which f may be wrong or dishonest.
 ghost use mathlib.Core.Path.{_≡_};
-ghost use Prim.Native.Nat.{_≤_, _*_};
-ghost use lib.Dec.{leb};
-ghost use Rattle.wire.specs.Numbers.{isFaults};
+ghost use Rattle.wire.specs.Numbers.{isFaults, isMachine};
 use wire::kinds::Machine;
 
 pub struct Committee {
@@ -26,9 +24,11 @@ impl Committee {
 
     // Whether a machine of this number is one of the committee.
     pub fn seats(self, machine: Machine) -> bool
-        requires { ⌜ self .faults ≤ 5 ⌝ }
-        ensures { λ r. ⌜ r ≡ leb (machine .0) (3 * self .faults) ⌝ }
+        ensures { λ r. ⌜ r ≡ isMachine (self .faults) (machine .0) ⌝ }
     {
+        if !self.in_range() {
+            return false;
+        }
         machine.0 <= 3 * self.faults
     }
 }

@@ -1,11 +1,15 @@
 -- 01, Numbers: the range of each, as a test.
-use Prim.Native.Nat.{ℕ, zero, suc}
+use Prim.Native.Nat.{ℕ, zero, suc, _*_}
 use mathlib.Core.Bool.{Bool, false, _&&_}
 use lib.Dec.{leb}
 
 -- f is 0..5
 abbrev pub isFaults : ℕ → Bool
 isFaults f = leb f 5
+
+-- machines are numbered 0..3f
+abbrev pub isMachine : ℕ → ℕ → Bool
+isMachine f k = isFaults f && leb k (3 * f)
 
 -- accounts 0..63
 abbrev pub isAccount : ℕ → Bool
