@@ -1,0 +1,6 @@
+pub mod SumLaws
+pub mod QuorumLaws
+pub mod HistoryLaws
+pub mod Safety
+pub mod Moves
+pub mod Following
