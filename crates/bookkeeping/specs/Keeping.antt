@@ -10,7 +10,9 @@ use borrow.Author.Tests.{leb-true, le-leb, eq-eqb}
 use Rattle.octets.specs.Octets.{one, two, eight, number, bytes, cut, put, allZero}
 use Rattle.octets.proofs.Laws.{length-put, length-bytes, number-put, number-put-out, cut-put-out}
 use Rattle.wire.specs.Numbers.{isFaults}
+use Rattle.wire.specs.Votes.{committee}
 use Rattle.states.specs.Headers.{faultsIn, lastIndex, withIndex}
+use Rattle.invariants.specs.Keeping.{faults-stay}
 use Rattle.ledger.specs.States.{Rules, base, isBaseHeader, stateLength, isState, pot, withPot, isPot, place, withRedeemed, freshState}
 use Rattle.ledger.proofs.Facts.{state-length, state-header, header-pot}
 use Rattle.bookkeeping.specs.Meaning.{Lays}
@@ -50,6 +52,9 @@ base-lays = record {
   pot-free = λ s amount r k h.
       header-put s 4 (bytes eight amount) amount (lit≤ tt) (λ j a b c d. omega (arith, length-bytes eight amount)) (pot-written s amount r k)
       ∙ rw k (rw (header-pot s h) at h);
+  index-seats = λ s index. ap committee (faults-stay s 2 (bytes two index) (lit≤ tt));
+  logs-seats = λ s at vs h. ap committee (faults-stay s at vs (omega arith));
+  pot-seats = λ s amount. ap committee (faults-stay s 4 (bytes eight amount) (lit≤ tt));
   pot-most = header-pot;
 }
 

@@ -17,12 +17,15 @@ abbrev pub LeavesBoth : List ℕ → List ℕ → FundOutcome → Type 0
 LeavesBoth s out o = (o .answer .number ≡ 0 → ⊥) → (o .state ≡ s) × (o .out ≡ out)
 
 -- rules whose header has the index in its bytes 2 and 3 and the pot in the eight behind them, and is judged neither by the index nor by
--- anything from the logs on, and by the pot only for its limits
+-- anything from the logs on, and by the pot only for its limits; the committee is read from none of these
 pub record Lays (rules : Rules) : Type 0 where
   pub room : 12 ≤ rules .logs
   pub index-free : (s : List ℕ) (index : ℕ) → rules .isHeader (withIndex s index) ≡ rules .isHeader s
   pub logs-free : (s : List ℕ) (at : ℕ) (vs : List ℕ) → rules .logs ≤ at → rules .isHeader (put s at vs) ≡ rules .isHeader s
   pub pot-free : (s : List ℕ) (amount : ℕ) → 12 ≤ length s → isPot amount ≡ true → rules .isHeader s ≡ true → rules .isHeader (withPot s amount) ≡ true
+  pub index-seats : (s : List ℕ) (index : ℕ) → rules .committee (withIndex s index) ≡ rules .committee s
+  pub logs-seats : (s : List ℕ) (at : ℕ) (vs : List ℕ) → rules .logs ≤ at → rules .committee (put s at vs) ≡ rules .committee s
+  pub pot-seats : (s : List ℕ) (amount : ℕ) → rules .committee (withPot s amount) ≡ rules .committee s
   pub pot-most : (s : List ℕ) → rules .isHeader s ≡ true → isPot (pot s) ≡ true
 
 -- a call on the ledger: fund with an output buffer, an account and an amount, or redeem with a message and verdicts

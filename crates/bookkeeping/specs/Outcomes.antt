@@ -1,11 +1,11 @@
 -- What a call on the ledger can come to: the bytes as they were, or new ones, with what the tests on the way said. Assumes nothing.
-use Prim.Native.Nat.{ℕ, zero, suc, _+_, _-_, _≤_, _<_}
+use Prim.Native.Nat.{ℕ, _+_, _-_, _≤_, _<_}
 use mathlib.Core.Path.{_≡_, refl}
 use mathlib.Core.Bool.{true, false}
 use mathlib.Core.List.{List}
 use native.Mathlib.Omega.{arith}
 use lib.ListN.{length}
-use lib.Dec.{leb, ltb, eqb, eqb·suc-zero, lit<}
+use lib.Dec.{leb, ltb, eqb, lit<}
 use borrow.Author.Tests.{leb-true, ltb-true, eqb-true}
 use Rattle.octets.specs.Octets.{put}
 use Rattle.wire.specs.Numbers.{isFaults, isAccount, isAmount}
@@ -16,7 +16,7 @@ use Rattle.wire.specs.declared.kinds.Payment.{Payment}
 use Rattle.wire.proofs.Ranges.{PaymentRange}
 use Rattle.states.specs.Headers.{lastIndex, withIndex}
 use Rattle.states.specs.Outcomes.{Outcome, outcome, refused, done}
-use Rattle.invariants.specs.Outcomes.{need-case, cond-case, certificate-body, body-range}
+use Rattle.invariants.specs.Outcomes.{need-case, cond-case, passed, certificate-body, body-range}
 use Rattle.ledger.specs.States.{Rules, stateLength, isState, pot, withPot, isPot, isRedeemed, withRedeemed, freshState}
 use Rattle.ledger.specs.Answers.{FundOutcome, fundOutcome, unfunded, funded, paid}
 use Rattle.ledger.specs.Calls.{fresh, fund, nextFunding, pay, redeem}
@@ -68,11 +68,6 @@ fund-comes P rules s out account amount refusal given =
     need-case P (leb 16 (length out)) _ _ (refusal 18 (lit< tt)) (λ e.
     need-case P (isPot (pot s + amount)) _ _ (refusal 16 (lit< tt)) (λ g.
     given (record { state = a; account-most = leb-true _ _ b; amount-fits = c; index = ltb-true _ _ d; room = leb-true _ _ e; pot-fits = g })))))))
-
--- no refusal that is passed on has the number 0
-passed : (P : Outcome → Type 0) (s : List ℕ) (n : ℕ) (rest : Outcome) → ((n : ℕ) → 0 < n → P (refused n s)) → (n ≡ 0 → P rest) → P (need (eqb n 0) (refused n s) rest)
-passed P s zero rest refusal given = given refl
-passed P s (suc n) rest refusal given = rw (eqb·suc-zero n) (refusal (suc n) (omega arith))
 
 -- what holds of every refusal, and of a payment out of the pot, holds of what redeem comes to
 pub redeem-comes : (P : Outcome → Type 0) (rules : Rules) (s m verdicts : List ℕ) → ((n : ℕ) → 0 < n → P (refused n s))

@@ -10,7 +10,7 @@ use borrow.Author.Tests.{eqb-true, eqb-false, le-leb}
 use Rattle.octets.specs.Octets.{one, two, number, bytes, put, allZero}
 use Rattle.octets.proofs.Laws.{length-put, length-bytes, getD-put-out, number-put-out, cut-put-out}
 use Rattle.wire.proofs.FieldLaws.{both}
-use Rattle.states.specs.Headers.{withIndex}
+use Rattle.states.specs.Headers.{faultsIn, withIndex}
 use Rattle.records.specs.declared.record.Record.{Record}
 use Rattle.records.specs.Records.{recordAt, recordBytes, holding, paid, credited}
 use Rattle.records.specs.States.{Rules, isBaseHeader, base, stateLength, isState, place, recordOf, isFormed, withRecord, freshState}
@@ -37,6 +37,10 @@ pub record-leaves : (rules : Rules) (s : List ℕ) (account : ℕ) (r : Record) 
 record-leaves rules s account r i n out =
     let l : length (recordBytes r) ≤ 72 = length-record-most r n in
     getD-put-out s (place rules account) (recordBytes r) i (λ p q. out (p, omega arith))
+
+-- f is read from the first byte alone
+pub faults-stay : (s : List ℕ) (at : ℕ) (vs : List ℕ) → 1 ≤ at → faultsIn (put s at vs) ≡ faultsIn s
+faults-stay s at vs h = number-put-out one s at vs 0 (λ j a b c d. omega arith)
 
 -- the base header reads neither bytes 2 and 3 nor any from 8 on
 pub header-stays : (s : List ℕ) (at : ℕ) (vs : List ℕ) → 2 ≤ at → ((j : ℕ) → at ≤ j → j < at + length vs → 4 ≤ j → j < 8 → ⊥) → isBaseHeader (put s at vs) ≡ isBaseHeader s

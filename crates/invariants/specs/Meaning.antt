@@ -23,11 +23,13 @@ pub record WellFormed (rules : Rules) (s : List ℕ) : Type 0 where
   pub state : isState rules s ≡ true
   pub records : (account : ℕ) → account ≤ 63 → isFormed rules s account ≡ true
 
--- rules whose header has the index in its bytes 2 and 3, and is judged neither by it nor by anything from the records on
+-- rules whose header has the index in its bytes 2 and 3, and is judged neither by it nor by anything from the records on; nor is the committee
 pub record Lays (rules : Rules) : Type 0 where
   pub room : 4 ≤ rules .records
   pub index-free : (s : List ℕ) (index : ℕ) → rules .isHeader (withIndex s index) ≡ rules .isHeader s
   pub records-free : (s : List ℕ) (at : ℕ) (vs : List ℕ) → rules .records ≤ at → rules .isHeader (put s at vs) ≡ rules .isHeader s
+  pub index-seats : (s : List ℕ) (index : ℕ) → rules .committee (withIndex s index) ≡ rules .committee s
+  pub records-seats : (s : List ℕ) (at : ℕ) (vs : List ℕ) → rules .records ≤ at → rules .committee (put s at vs) ≡ rules .committee s
 
 -- the certificates confirmed for the first n accounts: each raised its sender's next sequence by one
 unfoldable pub confirmedBy : Rules → List ℕ → ℕ → ℕ

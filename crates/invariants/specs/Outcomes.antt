@@ -1,12 +1,12 @@
 -- What a call on a machine can come to: the bytes as they were, or new ones, with what the tests on the way said. Assumes nothing.
-use Prim.Native.Nat.{ℕ, _+_, _*_, _≤_, _<_}
+use Prim.Native.Nat.{ℕ, zero, suc, _+_, _*_, _≤_, _<_}
 use mathlib.Core.Path.{_≡_, refl, sym, _∙_}
 use mathlib.Core.Bool.{Bool, true, false, _||_, cond, false≢true}
 use mathlib.Core.List.{List}
 use native.Mathlib.Omega.{arith}
 use lib.ListN.{length}
-use lib.Dec.{leb, ltb, eqb, lit<}
-use borrow.Author.Tests.{leb-true, ltb-false, eqb-true, eqb-false, eq-eqb}
+use lib.Dec.{leb, ltb, eqb, eqb·suc-zero, lit<}
+use borrow.Author.Tests.{leb-true, ltb-true, ltb-false, eqb-true, eqb-false, eq-eqb}
 use Rattle.octets.specs.Octets.{same}
 use Rattle.wire.specs.Numbers.{isFaults, isMachine}
 use Rattle.wire.specs.Fields.{need, laid}
@@ -77,6 +77,12 @@ pub record Voted (body : List ℕ) (r : Record) : Type 0 where
   pub next : payment body .sequence .0 ≡ r .next .0
   pub covered : nought + payment body .amount ≤ r .balance
 
+-- a vote repeated: its body is the pending one
+pub record Repeated (rules : Rules) (s body : List ℕ) : Type 0 where
+  pub range : PaymentRange (payment body)
+  pub waiting : 0 < recordOf rules s (payment body .sender .0) .waiting
+  pub pending : same (pendingOf rules s (payment body .sender .0)) body ≡ true
+
 -- a certificate of the next sequence: its payment, and the sender's record
 pub record Settled (p : Payment) (r : Record) : Type 0 where
   pub range : PaymentRange p
@@ -119,32 +125,91 @@ fresh-comes P rules s f own refusal made =
     let t = both (isFaults f) (leb own (3 * f)) a in
     made (leb-true _ _ (t .0)) (leb-true _ _ (t .1))))
 
--- what holds of every answer that leaves the bytes, and of those that change them, holds of what a call comes to
-module _ (P : Outcome → Type 0) (rules : Rules) (s : List ℕ) (left : (answer : Said) → P (outcome answer s)) where
-  test : (t : Bool) (n : ℕ) (rest : Outcome) → (t ≡ true → P rest) → P (need t (refused n s) rest)
-  test t n rest = need-case P t (refused n s) rest (left (refuses n))
+-- no refusal that is passed on has the number 0
+pub passed : (P : Outcome → Type 0) (s : List ℕ) (n : ℕ) (rest : Outcome) → ((n : ℕ) → 0 < n → P (refused n s)) → (n ≡ 0 → P rest) → P (need (eqb n 0) (refused n s) rest)
+passed P s zero rest refusal given = given refl
+passed P s (suc n) rest refusal given = rw (eqb·suc-zero n) (refusal (suc n) (omega arith))
 
-  pub order-comes : (m verdicts : List ℕ)
+-- what holds of every refusal, and of each answer, holds of what a call comes to
+module _ (P : Outcome → Type 0) (rules : Rules) (s : List ℕ) (refusal : (n : ℕ) → 0 < n → P (refused n s)) where
+  test : (t : Bool) (n : ℕ) (rest : Outcome) → 0 < n → (t ≡ true → P rest) → P (need t (refused n s) rest)
+  test t n rest h = need-case P t (refused n s) rest (refusal n h)
+
+  pub order-cases : (m verdicts : List ℕ)
+      → (Repeated rules s (inside m) → P (outcome voteRepeated s))
       → (Voted (inside m) (recordOf rules s (payment (inside m) .sender .0)) → P (outcome voteNew (afterVote rules s (inside m))))
       → P (order rules s m verdicts)
   unfolding order vote voteOn
-  order-comes m verdicts new =
+  order-cases m verdicts again new =
       let body = inside m in
       let p = payment body in
       let r = recordOf rules s (p .sender .0) in
-      test (isState rules s) 16 _ (λ _.
-      test (eqb (readOrderPayment m .number) 0) _ _ (λ read.
-      test (eqb (length verdicts) 1) 3 _ (λ _.
-      test (good verdicts) 4 _ (λ _.
-      test (isFormed rules s (p .sender .0)) 16 _ (λ _.
-      test (r .used) 8 _ (λ used.
-      cond-case P (ltb 0 (r .waiting)) _ _ (λ _. test (same (pendingOf rules s (p .sender .0)) body) 9 _ (λ _. left voteRepeated)) (λ none.
-      test (eqb (rules .further body) 0) _ _ (λ _.
-      test (eqb (p .sequence .0) (r .next .0)) 10 _ (λ next.
-      test (leb (nought + p .amount) (r .balance)) 11 _ (λ covered.
-      let b = order-body m (eqb-true _ _ read) in
+      test (isState rules s) 16 _ (lit< tt) (λ _.
+      passed P s (readOrderPayment m .number) _ refusal (λ read.
+      let b = order-body m read in
+      let range = body-range body b in
+      test (eqb (length verdicts) 1) 3 _ (lit< tt) (λ _.
+      test (good verdicts) 4 _ (lit< tt) (λ _.
+      test (isFormed rules s (p .sender .0)) 16 _ (lit< tt) (λ _.
+      test (r .used) 8 _ (lit< tt) (λ used.
+      cond-case P (ltb 0 (r .waiting)) _ _ (λ some. test (same (pendingOf rules s (p .sender .0)) body) 9 _ (lit< tt) (λ pending.
+      again (record { range = range; waiting = ltb-true _ _ some; pending = pending }))) (λ none.
+      passed P s (rules .further body) _ refusal (λ _.
+      test (eqb (p .sequence .0) (r .next .0)) 10 _ (lit< tt) (λ next.
+      test (leb (nought + p .amount) (r .balance)) 11 _ (lit< tt) (λ covered.
       let w : r .waiting ≤ 0 = ltb-false 0 (r .waiting) none in
-      new (record { formed = b; range = body-range body b; used = used; waiting = omega arith; next = eqb-true _ _ next; covered = leb-true _ _ covered })))))))))))
+      new (record { formed = b; range = range; used = used; waiting = omega arith; next = eqb-true _ _ next; covered = leb-true _ _ covered })))))))))))
+
+  pub certificate-cases : (m verdicts : List ℕ)
+      → (let p = payment (inside m) in let from = recordOf rules s (p .sender .0) in let judged = judgedBy (rules .committee s) m verdicts .number ≡ 0 in
+      P (outcome (already (length (signersIn m))) s)
+      → (judged → Settled p from → toItself p ≡ true → P (outcome (confirmed (length (signersIn m))) (afterPaid rules s p 0)))
+      → (judged → Settled p from → p .kind ≡ 1 → p .amount ≤ from .balance → P (outcome (confirmed (length (signersIn m))) (afterPaid rules s p (p .amount))))
+      → (judged → Settled p from → Moved p from (recordOf rules s (p .recipient)) → P (outcome (confirmed (length (signersIn m))) (afterMoved rules s p)))
+      → P (certificate rules s m verdicts))
+  unfolding certificate settle settleOn pay
+  certificate-cases m verdicts before itself ledger moved =
+      let p = payment (inside m) in
+      let from = recordOf rules s (p .sender .0) in
+      let to = recordOf rules s (p .recipient) in
+      test (isState rules s) 16 _ (lit< tt) (λ _.
+      passed P s (judgedBy (rules .committee s) m verdicts .number) _ refusal (λ judged.
+      test (isFormed rules s (p .sender .0)) 16 _ (lit< tt) (λ _.
+      test (eqb (p .kind) 1 || isFormed rules s (p .recipient)) 16 _ (lit< tt) (λ _.
+      cond-case P (ltb (p .sequence .0) (from .next .0)) _ _ (λ _. before) (λ _.
+      test (eqb (p .sequence .0) (from .next .0)) 10 _ (lit< tt) (λ next.
+      let range = body-range (inside m) (certificate-body (rules .committee s) m verdicts judged) in
+      let settled : Settled p from = record { range = range; next = eqb-true _ _ next } in
+      cond-case P (toItself p) _ _ (λ same. itself judged settled same) (λ other.
+      test (leb (p .amount) (from .balance)) 16 _ (lit< tt) (λ enough.
+      cond-case P (eqb (p .kind) 1) _ _ (λ kind. ledger judged settled (eqb-true _ _ kind) (leb-true _ _ enough)) (λ account.
+      test (leb (to .balance + p .amount) highest) 16 _ (lit< tt) (λ room.
+      let not-ledger = eqb-false (p .kind) 1 account in
+      let kind : p .kind ≡ 0 = omega (arith, range .kind) in
+      moved judged settled (record { kind = kind; other = not-itself p other kind; enough = leb-true _ _ enough; room = leb-true _ _ room })))))))))))
+
+  pub funding-cases : (m verdicts : List ℕ)
+      → (length verdicts ≡ 1 → good verdicts ≡ true → Funded (lastIndex s) (funding m) (recordOf rules s (funding m .account .0)) → P (outcome done (afterFunding rules s (funding m))))
+      → P (fundingOrder rules s m verdicts)
+  unfolding fundingOrder credit creditOn
+  funding-cases m verdicts funded =
+      let o = funding m in
+      let r = recordOf rules s (o .account .0) in
+      test (isState rules s) 16 _ (lit< tt) (λ _.
+      passed P s (readFunding m .number) _ refusal (λ read.
+      test (eqb (length verdicts) 1) 3 _ (lit< tt) (λ one.
+      test (good verdicts) 4 _ (lit< tt) (λ verdict.
+      test (isFormed rules s (o .account .0)) 16 _ (lit< tt) (λ _.
+      test (eqb (o .index .0) (lastIndex s + 1)) 12 _ (lit< tt) (λ index.
+      test (leb (r .balance + o .amount) highest) 16 _ (lit< tt) (λ room.
+      funded (eqb-true _ _ one) verdict (record { range = funding-range o (funding-order m read); index = eqb-true _ _ index; room = leb-true _ _ room }))))))))
+
+-- and so does what holds of every answer that leaves the bytes, and of those that change them
+module _ (P : Outcome → Type 0) (rules : Rules) (s : List ℕ) (left : (answer : Said) → P (outcome answer s)) where
+  pub order-comes : (m verdicts : List ℕ)
+      → (Voted (inside m) (recordOf rules s (payment (inside m) .sender .0)) → P (outcome voteNew (afterVote rules s (inside m))))
+      → P (order rules s m verdicts)
+  order-comes m verdicts new = order-cases P rules s (λ n _. left (refuses n)) m verdicts (λ _. left voteRepeated) new
 
   pub certificate-comes : (m verdicts : List ℕ)
       → (let p = payment (inside m) in let from = recordOf rules s (p .sender .0) in
@@ -152,39 +217,10 @@ module _ (P : Outcome → Type 0) (rules : Rules) (s : List ℕ) (left : (answer
       → (Settled p from → p .kind ≡ 1 → p .amount ≤ from .balance → P (outcome (confirmed (length (signersIn m))) (afterPaid rules s p (p .amount))))
       → (Settled p from → Moved p from (recordOf rules s (p .recipient)) → P (outcome (confirmed (length (signersIn m))) (afterMoved rules s p)))
       → P (certificate rules s m verdicts))
-  unfolding certificate settle settleOn pay
   certificate-comes m verdicts itself ledger moved =
-      let p = payment (inside m) in
-      let from = recordOf rules s (p .sender .0) in
-      let to = recordOf rules s (p .recipient) in
-      test (isState rules s) 16 _ (λ _.
-      test (eqb (judgedBy (rules .committee s) m verdicts .number) 0) _ _ (λ judged.
-      test (isFormed rules s (p .sender .0)) 16 _ (λ _.
-      test (eqb (p .kind) 1 || isFormed rules s (p .recipient)) 16 _ (λ _.
-      cond-case P (ltb (p .sequence .0) (from .next .0)) _ _ (λ _. left (already (length (signersIn m)))) (λ _.
-      test (eqb (p .sequence .0) (from .next .0)) 10 _ (λ next.
-      let range = body-range (inside m) (certificate-body (rules .committee s) m verdicts (eqb-true _ _ judged)) in
-      let settled : Settled p from = record { range = range; next = eqb-true _ _ next } in
-      cond-case P (toItself p) _ _ (λ same. itself settled same) (λ other.
-      test (leb (p .amount) (from .balance)) 16 _ (λ enough.
-      cond-case P (eqb (p .kind) 1) _ _ (λ kind. ledger settled (eqb-true _ _ kind) (leb-true _ _ enough)) (λ account.
-      test (leb (to .balance + p .amount) highest) 16 _ (λ room.
-      let not-ledger = eqb-false (p .kind) 1 account in
-      let kind : p .kind ≡ 0 = omega (arith, range .kind) in
-      moved settled (record { kind = kind; other = not-itself p other kind; enough = leb-true _ _ enough; room = leb-true _ _ room })))))))))))
+      certificate-cases P rules s (λ n _. left (refuses n)) m verdicts (left (already (length (signersIn m)))) (λ _. itself) (λ _. ledger) (λ _. moved)
 
   pub funding-comes : (m verdicts : List ℕ)
       → (Funded (lastIndex s) (funding m) (recordOf rules s (funding m .account .0)) → P (outcome done (afterFunding rules s (funding m))))
       → P (fundingOrder rules s m verdicts)
-  unfolding fundingOrder credit creditOn
-  funding-comes m verdicts funded =
-      let o = funding m in
-      let r = recordOf rules s (o .account .0) in
-      test (isState rules s) 16 _ (λ _.
-      test (eqb (readFunding m .number) 0) _ _ (λ read.
-      test (eqb (length verdicts) 1) 3 _ (λ _.
-      test (good verdicts) 4 _ (λ _.
-      test (isFormed rules s (o .account .0)) 16 _ (λ _.
-      test (eqb (o .index .0) (lastIndex s + 1)) 12 _ (λ index.
-      test (leb (r .balance + o .amount) highest) 16 _ (λ room.
-      funded (record { range = funding-range o (funding-order m (eqb-true _ _ read)); index = eqb-true _ _ index; room = leb-true _ _ room }))))))))
+  funding-comes m verdicts funded = funding-cases P rules s (λ n _. left (refuses n)) m verdicts (λ _ _. funded)

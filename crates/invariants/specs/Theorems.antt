@@ -8,6 +8,7 @@ use lib.Dec.{lit≤}
 use Rattle.octets.specs.Octets.{two, bytes}
 use Rattle.octets.proofs.Laws.{length-put, length-bytes, getD-put-out}
 use Rattle.wire.specs.Messages.{payment, inside, funding}
+use Rattle.wire.specs.Votes.{committee}
 use Rattle.states.specs.Headers.{withIndex, lastIndex}
 use Rattle.records.specs.declared.record.Record.{Record}
 use Rattle.records.specs.Records.{freshRecord}
@@ -16,7 +17,7 @@ use Rattle.records.specs.Calls.{fresh, order, certificate, fundingOrder, accoun
 use Rattle.invariants.specs.RecordLaws.{holding-formed, paid-formed, credited-formed, fresh-records, record-stays}
 use Rattle.invariants.specs.Outcomes.{afterPaid, Settled, fresh-comes, order-comes, certificate-comes, funding-comes}
 use Rattle.invariants.specs.Meaning.{LeavesRefused, InRecord, WellFormed, Lays, Limited, Reached}
-use Rattle.invariants.specs.Keeping.{holding-size, paid-size, credited-size, record-leaves, header-stays, fresh-state, formed-of, withRecord-keeps, withIndex-keeps}
+use Rattle.invariants.specs.Keeping.{faults-stay, holding-size, paid-size, credited-size, record-leaves, header-stays, fresh-state, formed-of, withRecord-keeps, withIndex-keeps}
 use Rattle.invariants.specs.Bounds.{changed-holding, changed-credited, follows-itself, follows-index, follows-record, limited-still, fresh-record, fresh-index, follows-paid, raised, limited-more, order-low, certificate-low, funding-low, account-low}
 
 -- a refusal leaves every byte
@@ -73,6 +74,8 @@ base-lays = record {
   room = lit≤ tt;
   index-free = λ s index. header-stays s 2 (bytes two index) (lit≤ tt) (λ j a b c d. omega (arith, length-bytes two index));
   records-free = λ s at vs h. header-stays s at vs (omega arith) (λ j a b c d. omega arith);
+  index-seats = λ s index. ap committee (faults-stay s 2 (bytes two index) (lit≤ tt));
+  records-seats = λ s at vs h. ap committee (faults-stay s at vs (omega arith));
 }
 
 -- a fresh state is well formed, and every call keeps that

@@ -28,7 +28,8 @@ use Rattle.roundtrip.specs.Order.{order-wrote, order-read-back, order-gi
 use Rattle.roundtrip.specs.Funding.{funding-wrote, funding-read-back, funding-given, funding-again}
 use Rattle.roundtrip.specs.Certificate.{certificate-wrote, certificate-read-back, certificate-given, certificate-again, certifies-written, certifies-size, judged-read}
 use Rattle.roundtrip.specs.VoteLaws.{length-signers}
-use Rattle.roundtrip.specs.Voters.{In, Distinct, rising-distinct, known-most}
+use Rattle.model.specs.Lists.{In, Distinct}
+use Rattle.roundtrip.specs.Voters.{rising-distinct, known-most}
 
 -- what a writer made: the first bytes of the output, as many as its answer says; none if it refused
 abbrev pub made : Written → List ℕ

@@ -3,23 +3,14 @@ use Prim.Native.Nat.{ℕ, _+_, _≤_}
 use mathlib.Core.Path.{_≡_}
 use mathlib.Core.Bool.{true}
 use mathlib.Core.List.{List, [], _∷_}
-use mathlib.Core.Logic.{_⊎_, inl, inr}
+use mathlib.Core.Logic.{inl, inr}
 use native.Mathlib.Omega.{arith}
 use lib.ListN.{length}
 use lib.Dec.{leb}
 use borrow.Author.Tests.{leb-true}
+use Rattle.model.specs.Lists.{In, Distinct}
 use Rattle.wire.specs.Votes.{known, risingFrom, rising}
 use Rattle.wire.proofs.FieldLaws.{both}
-
--- k is one of these numbers
-abbrev pub In : ℕ → List ℕ → Type 0
-In k [] = ⊥
-In k (x ∷ xs) = (k ≡ x) ⊎ In k xs
-
--- no two of these numbers are the same
-abbrev pub Distinct : List ℕ → Type 0
-Distinct [] = Unit
-Distinct (k ∷ ks) = (In k ks → ⊥) × Distinct ks
 
 -- numbers that rise from `least` are at least that
 rising-least : (ks : List ℕ) (least k : ℕ) → risingFrom least ks ≡ true → In k ks → least ≤ k

@@ -1,0 +1,2 @@
+-- Demand 3 on one page.
+pub mod Demand3
