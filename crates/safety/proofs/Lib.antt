@@ -1,0 +1,6 @@
+pub mod Papers
+pub mod Certificates
+pub mod Showing
+pub mod Books
+pub mod Holding
+pub mod Demand3

@@ -1,0 +1,91 @@
+-- Bodies and funding orders as bytes, and what a state shows of the accounts: the model's words for what the page speaks of. Assumes nothing.
+use Prim.Native.Nat.{ℕ, suc, _+_, _*_, _≤_, _<_}
+use mathlib.Core.Path.{_≡_, refl, sym, ap, _∙_}
+use mathlib.Core.Bool.{Bool, true, false, _&&_, _||_, not, cond, false≢true}
+use mathlib.Core.List.{List, [], _∷_, _++_}
+use mathlib.Core.Logic.{_⊎_, inl, inr}
+use mathlib.Core.Option.{Option, none, some}
+use native.Mathlib.Omega.{arith}
+use lib.ListN.{length, take}
+use lib.Dec.{eqb}
+use borrow.Author.Tests.{eqb-true, eq-eqb}
+use Rattle.model.specs.Lists.{In}
+use Rattle.model.specs.Quorums.{counting}
+use Rattle.model.specs.Histories.{Payments, Event}
+use Rattle.model.specs.Worlds as model
+use Rattle.model.specs.Views.{Shown, GaveAs}
+use Rattle.model.proofs.QuorumLaws.{count-quorum, quorum-count, count-either}
+use Rattle.octets.specs.Octets.{same}
+use Rattle.wire.specs.Messages.{payment, funding}
+use Rattle.wire.proofs.FieldLaws.{both}
+use Rattle.states.specs.Headers.{lastIndex}
+use Rattle.records.specs.declared.record.Record.{Record}
+use Rattle.records.specs.States.{Rules, recordOf}
+use Rattle.safety.specs.Demand3.{Moment, Certain}
+
+-- bytes that are the same are equal, and the other way round
+pub same-is : (a b : List ℕ) → same a b ≡ true → a ≡ b
+unfolding same
+same-is [] [] h = refl
+same-is [] (y ∷ b) h = absurd (false≢true h)
+same-is (x ∷ a) [] h = absurd (false≢true h)
+same-is (x ∷ a) (y ∷ b) h =
+    let t = both (eqb x y) (same a b) h in
+    let e : x ≡ y = eqb-true x y (t .0) in
+    let q : a ≡ b = same-is a b (t .1) in
+    λ i. e i ∷ q i
+
+pub is-same : (a : List ℕ) → same a a ≡ true
+unfolding same
+is-same [] = refl
+is-same (x ∷ a) = rw (eq-eqb x x refl, is-same a)
+
+-- the model's payments and funding orders are ours
+abbrev pub papers : Payments
+papers = record {
+  Body = List ℕ;
+  same = same;
+  same-is = same-is;
+  is-same = is-same;
+  sender = λ b. payment b .sender .0;
+  kind = λ b. payment b .kind;
+  recipient = λ b. payment b .recipient;
+  amount = λ b. payment b .amount;
+  sequence = λ b. payment b .sequence .0;
+  Order = List ℕ;
+  account = λ o. funding o .account .0;
+  value = λ o. funding o .amount;
+}
+
+-- what was done up to a moment, as the model's world
+abbrev pub world : Moment → model.World (List ℕ) (List ℕ)
+world w = record { did = w .did; given = w .given; paid = w .paid }
+
+-- certain as the page says it is certain as the model says it
+pub certain-counts : (f : ℕ) (dishonest : ℕ → Bool) (w : Moment) (b : List ℕ) → model.Certain papers (counting f) dishonest (world w) b → Certain f dishonest w b
+certain-counts = ?
+
+pub counts-certain : (f : ℕ) (dishonest : ℕ → Bool) (w : Moment) (b : List ℕ) → Certain f dishonest w b → model.Certain papers (counting f) dishonest (world w) b
+counts-certain = ?
+
+-- the pending body of a record, if there is one
+abbrev pub opened : Record → Option (List ℕ)
+opened r = cond (eqb (r .waiting) 0) none (some (take (r .waiting) (r .pending)))
+
+-- what a machine's state shows
+abbrev pub shown : Rules → List ℕ → Shown (List ℕ)
+shown rules s = record {
+  next-of = λ x. recordOf rules s x .next .0;
+  pending = λ x. opened (recordOf rules s x);
+  balance = λ x. recordOf rules s x .balance;
+  last = λ x. lastIndex s;
+}
+
+-- the ledger's orders are numbered from 1 on, the oldest first
+abbrev pub Numbered : List (List ℕ) → Type 0
+Numbered [] = Unit
+Numbered (o ∷ older) = (funding o .index .0 ≡ suc (length older)) × Numbered older
+
+-- so an order is given as the one of its index
+pub given-as : (given : List (List ℕ)) (o : List ℕ) → Numbered given → In o given → GaveAs given o (funding o .index .0)
+given-as = ?
