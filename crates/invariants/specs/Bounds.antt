@@ -1,7 +1,7 @@
 -- How far a call moves balances, and what room the limits leave. Assumes nothing.
 use Prim.Native.Nat.{ℕ, _+_, _*_, _≤_, _<_, zero, suc}
 use mathlib.Core.Path.{_≡_, refl, subst, _∙_, ap}
-use mathlib.Core.Bool.{Bool, true, false, _||_, cond, false≢true}
+use mathlib.Core.Bool.{Bool, true, false, _||_, cond}
 use mathlib.Core.List.{List}
 use native.Mathlib.Omega.{arith}
 use lib.ListN.{length}
@@ -27,7 +27,7 @@ use Rattle.roundtrip.specs.Answers.{said}
 use Rattle.wire.proofs.Ranges.{PaymentRange, funding-range}
 use Rattle.records.specs.Balances.{nought, highest}
 use Rattle.invariants.specs.RecordLaws.{Formed, paid-formed, record-window, record-read-back, record-stays, record-behind, fresh-window}
-use Rattle.invariants.specs.Outcomes.{afterPaid, Settled, order-body, certificate-body, funding-order, body-range, need-case, cond-case}
+use Rattle.invariants.specs.Outcomes.{afterPaid, Settled, order-body, certificate-body, funding-order, body-range, need-case, need-holds, cond-case}
 use Rattle.invariants.specs.Meaning.{WellFormed, Lays, confirmedBy, Limited}
 use Rattle.invariants.specs.Keeping.{record-room, formed-of, withRecord-keeps, withIndex-keeps}
 
@@ -172,8 +172,7 @@ module _ {A : Type 0} (answer : A → ℕ) where
   below = need-case (λ x. answer x ≤ 15)
 
   pub holds : (t : Bool) (failed rest : A) → t ≡ true → answer rest ≤ 15 → answer (need t failed rest) ≤ 15
-  holds true failed rest e h = h
-  holds false failed rest e h = absurd (false≢true e)
+  holds = need-holds (λ x. answer x ≤ 15)
 
   pub either : (t : Bool) (a b : A) → answer a ≤ 15 → (t ≡ false → answer b ≤ 15) → answer (cond t a b) ≤ 15
   either t a b h = cond-case (λ x. answer x ≤ 15) t a b (λ _. h)

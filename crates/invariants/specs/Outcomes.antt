@@ -105,11 +105,15 @@ pub record Funded (last : ℕ) (o : Funding) (r : Record) : Type 0 where
 not-itself : (p : Payment) → toItself p ≡ false → p .kind ≡ 0 → p .recipient ≡ p .sender .0 → ⊥
 not-itself p e k r = false≢true (sym e ∙ rw (eq-eqb _ _ k, eq-eqb _ _ r))
 
--- both ways of a test
+-- both ways of a test, and the one way of a test that holds
 module _ {A : Type 0} (P : A → Type 0) where
   pub need-case : (t : Bool) (failed rest : A) → P failed → (t ≡ true → P rest) → P (need t failed rest)
   need-case true failed rest f r = r refl
   need-case false failed rest f r = f
+
+  pub need-holds : (t : Bool) (failed rest : A) → t ≡ true → P rest → P (need t failed rest)
+  need-holds true failed rest e h = h
+  need-holds false failed rest e h = absurd (false≢true e)
 
   pub cond-case : (t : Bool) (a b : A) → (t ≡ true → P a) → (t ≡ false → P b) → P (cond t a b)
   cond-case true a b f g = f refl

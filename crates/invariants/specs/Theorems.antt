@@ -1,5 +1,5 @@
 -- The laws of a machine's calls, for any messages, verdicts and states. Assumes nothing.
-use Prim.Native.Nat.{ℕ, _≤_, _<_}
+use Prim.Native.Nat.{ℕ, _*_, _≤_, _<_}
 use mathlib.Core.Path.{_≡_, refl, _∙_, ap}
 use mathlib.Core.List.{List}
 use native.Mathlib.Omega.{arith}
@@ -12,7 +12,7 @@ use Rattle.wire.specs.Votes.{committee}
 use Rattle.states.specs.Headers.{withIndex, lastIndex}
 use Rattle.records.specs.declared.record.Record.{Record}
 use Rattle.records.specs.Records.{freshRecord}
-use Rattle.records.specs.States.{Rules, base, recordOf}
+use Rattle.records.specs.States.{Rules, base, recordOf, freshState}
 use Rattle.records.specs.Calls.{fresh, order, certificate, fundingOrder, account}
 use Rattle.invariants.specs.RecordLaws.{holding-formed, paid-formed, credited-formed, fresh-records, record-stays}
 use Rattle.invariants.specs.Outcomes.{afterPaid, Settled, fresh-comes, order-comes, certificate-comes, funding-comes}
@@ -112,17 +112,18 @@ funding-keeps rules l s m verdicts w =
     (credited-formed (o .account .0) _ (o .amount) (formed-of rules s (o .account .0) w (v .range .account)) (v .room)))
 
 -- a fresh state is limited, and every call keeps that
-pub fresh-limited : (s : List ℕ) (f own : ℕ) → fresh base s f own .answer .number ≡ 0 → Limited base (fresh base s f own .state)
+pub fresh-limits : (f own : ℕ) → f ≤ 5 → own ≤ 3 * f → Limited base (freshState base f own)
 unfolding freshRecord
-fresh-limited s f own e =
-    fresh-comes (λ o. o .answer .number ≡ 0 → WellFormed base (o .state) → Limited base (o .state)) base s f own (λ n h e. absurd (omega arith))
-    (λ h k _ w. record {
-      formed = w;
-      index = omega (arith, fresh-index f own);
-      least = λ x k. rw (fresh-record f own x k) (omega arith);
-      most = λ x k. rw (fresh-record f own x k) (omega arith);
-    })
-    e (fresh-formed s f own e)
+fresh-limits f own h k = record {
+  formed = record { state = fresh-state f own h k; records = fresh-records f own };
+  index = omega (arith, fresh-index f own);
+  least = λ x k. rw (fresh-record f own x k) (omega arith);
+  most = λ x k. rw (fresh-record f own x k) (omega arith);
+}
+
+pub fresh-limited : (s : List ℕ) (f own : ℕ) → fresh base s f own .answer .number ≡ 0 → Limited base (fresh base s f own .state)
+fresh-limited s f own =
+    fresh-comes (λ o. o .answer .number ≡ 0 → Limited base (o .state)) base s f own (λ n h e. absurd (omega arith)) (λ h k _. fresh-limits f own h k)
 
 pub order-limited : (rules : Rules) → Lays rules → (s m verdicts : List ℕ) → Limited rules s → Limited rules (order rules s m verdicts .state)
 order-limited rules l s m verdicts h =

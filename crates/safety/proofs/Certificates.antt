@@ -1,17 +1,30 @@
 -- A good certificate with fair verdicts makes its body certain. Assumes nothing.
-use Prim.Native.Nat.{ℕ, _+_, _*_, _≤_, _<_}
-use mathlib.Core.Path.{_≡_}
+use Prim.Native.Nat.{ℕ, zero, suc, _+_, _*_, _≤_, _<_}
+use mathlib.Core.Path.{_≡_, refl, sym, _∙_}
 use mathlib.Core.Bool.{Bool, true, false}
 use mathlib.Core.List.{List, [], _∷_}
+use mathlib.Core.Logic.{inl, inr}
+use native.Mathlib.Omega.{arith}
 use lib.ListN.{length, getD}
+use lib.Dec.{eqb, lit<}
+use borrow.Author.Tests.{eqb-true, leb-true}
 use Rattle.model.specs.Lists.{In, Distinct, sumOf}
 use Rattle.model.specs.Quorums as quorums
 use Rattle.model.specs.Histories.{votes}
 use Rattle.model.specs.Worlds as model
-use Rattle.wire.specs.Messages.{inside}
+use Rattle.model.proofs.QuorumLaws.{signers-enough}
+use Rattle.model.proofs.Safety.{good-certificate}
+use Rattle.wire.specs.Fields.{laid}
+use Rattle.wire.specs.Messages.{bodyFields, certificateFields, payment, isPayment, inside}
+use Rattle.wire.specs.Refusals.{refuses}
 use Rattle.wire.specs.Votes as wire
 use Rattle.wire.specs.Readers.{judgedBy}
-use Rattle.safety.specs.Demand3.{Moment, Honest, FairVotes, Good}
+use Rattle.wire.proofs.FieldLaws.{both}
+use Rattle.roundtrip.specs.Answers.{through, said}
+use Rattle.roundtrip.specs.VoteLaws.{length-signers}
+use Rattle.roundtrip.specs.Voters.{rising-distinct, known-most}
+use Rattle.safety.specs.Runs.{Moment}
+use Rattle.safety.specs.Demand3.{Honest, FairVotes, Good}
 use Rattle.safety.proofs.Papers.{papers, world}
 
 -- a committee as a header names it is one of the model: its last number, and enough machines of it weigh enough
@@ -21,7 +34,8 @@ pub record Seats (C : quorums.Committee) (c : wire.Committee) : Type 0 where
 
 -- 2f + 1 of 3f + 1
 pub counting-seats : (f : ℕ) → Seats (quorums.counting f) (wire.committee f)
-counting-seats = ?
+unfolding quorums.counting
+counting-seats f = record { last = refl; enough = λ machines h. signers-enough f machines (leb-true _ _ h) }
 
 -- what the judge of a certificate found
 pub record Judged (c : wire.Committee) (m verdicts : List ℕ) : Type 0 where
@@ -32,18 +46,54 @@ pub record Judged (c : wire.Committee) (m verdicts : List ℕ) : Type 0 where
   pub quorum : c .quorum (wire.signersIn m) ≡ true
 
 pub judged : (c : wire.Committee) (m verdicts : List ℕ) → judgedBy c m verdicts .number ≡ 0 → Judged c m verdicts
-judged = ?
+unfolding judgedBy
+judged c m verdicts e =
+    let a = through said (laid m certificateFields) (refuses 1) _ (lit< tt) e in
+    let b = through said (laid (inside m) bodyFields) (refuses 1) _ (lit< tt) (a .1) in
+    let d = through said (isPayment (payment (inside m))) (refuses 2) _ (lit< tt) (b .1) in
+    let g = through said (eqb (length verdicts) (wire.votes m)) (refuses 3) _ (lit< tt) (d .1) in
+    let k = through said (wire.known (c .last) (wire.signersIn m)) (refuses 5) _ (lit< tt) (g .1) in
+    let r = through said (wire.rising (wire.signersIn m)) (refuses 6) _ (lit< tt) (k .1) in
+    let v = through said (wire.good verdicts) (refuses 4) _ (lit< tt) (r .1) in
+    let q = through said (c .quorum (wire.signersIn m)) (refuses 7) _ (lit< tt) (v .1) in
+    record {
+      count = eqb-true _ _ (g .0) ∙ sym (length-signers m _ 68 (wire.votes m));
+      known = k .0;
+      rising = r .0;
+      good = v .0;
+      quorum = q .0;
+    }
 
 -- each machine counts once
-pub signers-once : (c : wire.Committee) (m verdicts : List ℕ) → judgedBy c m verdicts .number ≡ 0 → Distinct (wire.signersIn m)
-signers-once = ?
+pub signers-once : (c : wire.Committee) (m verdicts : List ℕ) → Judged c m verdicts → Distinct (wire.signersIn m)
+signers-once c m verdicts j = rising-distinct (wire.signersIn m) (j .rising)
 
--- under fair verdicts the honest signers of a good certificate voted for its body
-pub fair-signers : (f : ℕ) (dishonest : ℕ → Bool) (w : Moment) (c : wire.Committee) (m verdicts : List ℕ) → Judged c m verdicts → FairVotes f dishonest w m verdicts
-    → (k : ℕ) → In k (wire.signersIn m) → Honest f dishonest k → In (inside m) (votes (w .did k))
-fair-signers = ?
+-- what stands in a list stands at a place of it
+place-of : (l : List ℕ) (k : ℕ) → In k l → (i : ℕ) × (i < length l) × (getD l i 0 ≡ k)
+place-of [] k i = absurd i
+place-of (x ∷ l) k (inl e) = (0, omega arith, sym e)
+place-of (x ∷ l) k (inr i) = let p = place-of l k i in (suc (p .0), omega arith, p .2)
 
--- so its body is certain
+-- good verdicts are 1 at every place
+pub good-at : (vs : List ℕ) (i : ℕ) → wire.good vs ≡ true → i < length vs → getD vs i 0 ≡ 1
+unfolding wire.good
+good-at [] i g h = absurd (omega arith)
+good-at (v ∷ vs) zero g h = eqb-true v 1 (both (eqb v 1) (wire.good vs) g .0)
+good-at (v ∷ vs) (suc i) g h = good-at vs i (both (eqb v 1) (wire.good vs) g .1) (omega arith)
+
+-- a good certificate whose honest signers voted for its body makes that certain, by weight
+pub weighed : (C : quorums.Committee) (c : wire.Committee) → Seats C c → (dishonest : ℕ → Bool) (w : Moment) (m verdicts : List ℕ) → Judged c m verdicts
+    → ((k : ℕ) → In k (wire.signersIn m) → dishonest k ≡ false → In (inside m) (votes (w .did k))) → model.Certain papers C dishonest (world w) (inside m)
+weighed C c seats dishonest w m verdicts j voted =
+    good-certificate papers C dishonest (world w) (inside m) (wire.signersIn m) (signers-once c m verdicts j)
+    (λ k i. (omega (arith, known-most (wire.signersIn m) (c .last) k (j .known) i, seats .last), voted k i)) (seats .enough (wire.signersIn m) (j .quorum))
+
+-- and under fair verdicts they did
 pub certified : (f : ℕ) (dishonest : ℕ → Bool) (w : Moment) (m verdicts : List ℕ) → Good f dishonest m verdicts → FairVotes f dishonest w m verdicts
     → model.Certain papers (quorums.counting f) dishonest (world w) (inside m)
-certified = ?
+certified f dishonest w m verdicts good fair =
+    let j = judged (wire.committee f) m verdicts good in
+    weighed (quorums.counting f) (wire.committee f) (counting-seats f) dishonest w m verdicts j (λ k i h.
+    let p = place-of (wire.signersIn m) k i in
+    let one = good-at verdicts (p .0) (j .good) (omega (arith, j .count)) in
+    rw (p .2) at (fair (p .0) (p .1) one) (known-most (wire.signersIn m) (3 * f) k (j .known) i, h))

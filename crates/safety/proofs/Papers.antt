@@ -9,9 +9,9 @@ use native.Mathlib.Omega.{arith}
 use lib.ListN.{length, take}
 use lib.Dec.{eqb}
 use borrow.Author.Tests.{eqb-true, eq-eqb}
-use Rattle.model.specs.Lists.{In}
+use Rattle.model.specs.Lists.{In, isIn}
 use Rattle.model.specs.Quorums.{counting}
-use Rattle.model.specs.Histories.{Payments, Event}
+use Rattle.model.specs.Histories.{Payments, votes}
 use Rattle.model.specs.Worlds as model
 use Rattle.model.specs.Views.{Shown, GaveAs}
 use Rattle.model.proofs.QuorumLaws.{count-quorum, quorum-count, count-either}
@@ -21,7 +21,8 @@ use Rattle.wire.proofs.FieldLaws.{both}
 use Rattle.states.specs.Headers.{lastIndex}
 use Rattle.records.specs.declared.record.Record.{Record}
 use Rattle.records.specs.States.{Rules, recordOf}
-use Rattle.safety.specs.Demand3.{Moment, Certain}
+use Rattle.safety.specs.Runs.{Moment}
+use Rattle.safety.specs.Demand3.{Certain}
 
 -- bytes that are the same are equal, and the other way round
 pub same-is : (a b : List ℕ) → same a b ≡ true → a ≡ b
@@ -63,10 +64,16 @@ world w = record { did = w .did; given = w .given; paid = w .paid }
 
 -- certain as the page says it is certain as the model says it
 pub certain-counts : (f : ℕ) (dishonest : ℕ → Bool) (w : Moment) (b : List ℕ) → model.Certain papers (counting f) dishonest (world w) b → Certain f dishonest w b
-certain-counts = ?
+unfolding model.Certain model.voters
+certain-counts f dishonest w b c =
+    let votedFor : ℕ → Bool = λ k. isIn same b (votes (w .did k)) in
+    omega (arith, count-either dishonest votedFor (3 * f + 1), quorum-count f (λ k. dishonest k || votedFor k) c)
 
 pub counts-certain : (f : ℕ) (dishonest : ℕ → Bool) (w : Moment) (b : List ℕ) → Certain f dishonest w b → model.Certain papers (counting f) dishonest (world w) b
-counts-certain = ?
+unfolding model.Certain model.voters
+counts-certain f dishonest w b c =
+    let votedFor : ℕ → Bool = λ k. isIn same b (votes (w .did k)) in
+    count-quorum f (λ k. dishonest k || votedFor k) (omega (arith, count-either dishonest votedFor (3 * f + 1)))
 
 -- the pending body of a record, if there is one
 abbrev pub opened : Record → Option (List ℕ)
@@ -88,4 +95,8 @@ Numbered (o ∷ older) = (funding o .index .0 ≡ suc (length older)) × Numbere
 
 -- so an order is given as the one of its index
 pub given-as : (given : List (List ℕ)) (o : List ℕ) → Numbered given → In o given → GaveAs given o (funding o .index .0)
-given-as = ?
+given-as [] o n i = absurd i
+given-as (c ∷ older) o n (inl e) = record { newer = []; older = older; placed = ap (λ x. x ∷ older) e; number = sym (ap (λ x. funding x .index .0) e ∙ n .0) }
+given-as (c ∷ older) o n (inr i) =
+    let g = given-as older o (n .1) i in
+    record { newer = c ∷ g .newer; older = g .older; placed = ap (λ l. c ∷ l) (g .placed); number = g .number }

@@ -17,7 +17,7 @@ use Rattle.records.specs.States.{Rules, base, recordOf, withRecord, freshState}
 use Rattle.records.specs.Calls as on-machine
 use Rattle.invariants.specs.RecordLaws.{Formed}
 use Rattle.invariants.specs.Meaning.{WellFormed, Lays}
-use Rattle.safety.specs.Demand3.{noted, isConfirmed}
+use Rattle.safety.specs.Runs.{noted, isConfirmed}
 use Rattle.safety.proofs.Papers.{papers, shown, Numbered}
 
 -- a record written is the account's, and the others stay
