@@ -111,19 +111,19 @@ module _ (f : ℕ) (dishonest : ℕ → Bool) where
       let own = h .machines k honest in
       holds-acts w h k honest _ _ (order-does machine.base base-lays _ (w .given) (w .machines k) (own .limited .formed) (w .did k) m verdicts)
       (order-limited machine.base base-lays (w .machines k) m verdicts (own .limited))
-      (order-seats machine.base base-lays (model.Certain papers (counting f) dishonest (world w)) (w .given) (w .machines k) (own .limited .formed) (w .did k) m verdicts)
+      (order-seats machine.base base-lays (w .machines k) m verdicts)
   holds-call w h (Call.certificate k m verdicts) honest fair =
       let own = h .machines k honest in
       holds-acts w h k honest _ _
       (certificate-does machine.base base-lays _ (w .given) (w .machines k) (own .limited .formed) (w .did k) m verdicts (λ e. certified f dishonest w m verdicts (rw (own .seats) at e) fair))
       (certificate-limited machine.base base-lays (w .machines k) m verdicts (own .limited))
-      (certificate-seats machine.base base-lays (model.Certain papers (counting f) dishonest (world w)) (w .given) (w .machines k) (own .limited .formed) (w .did k) m verdicts)
+      (certificate-seats machine.base base-lays (w .machines k) m verdicts)
   holds-call w h (Call.fundingOrder k m verdicts) honest fair =
       let own = h .machines k honest in
       holds-acts w h k honest _ _
       (funding-does machine.base base-lays _ (w .given) (w .machines k) (own .limited .formed) (w .did k) m verdicts (h .books .numbered) (λ n g. fair (good-at verdicts 0 g (omega arith))))
       (funding-limited machine.base base-lays (w .machines k) m verdicts (own .limited))
-      (funding-seats machine.base base-lays (model.Certain papers (counting f) dishonest (world w)) (w .given) (w .machines k) (own .limited .formed) (w .did k) m verdicts)
+      (funding-seats machine.base base-lays (w .machines k) m verdicts)
   holds-call w h (Call.fund out account amount) honest fair =
       let o = on-ledger.fund ledger.base (w .ledger) out account amount in
       record {
