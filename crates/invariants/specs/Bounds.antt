@@ -254,7 +254,7 @@ funding-low s m verdicts h =
     let o = funding m in
     holds told (isState base s) _ _ (h .formed .state)
     (below told (eqb (readFunding m .number) 0) _ _ (funding-read m) (λ read.
-    let range = funding-range o (funding-order m (eqb-true _ _ read)) in
+    let range = funding-range o (funding-order m (eqb-true _ _ read) .1) in
     below told (eqb (length verdicts) 1) _ _ (lit≤ tt) (λ _.
     below told (good verdicts) _ _ (lit≤ tt) (λ _.
     holds told (isFormed base s (o .account .0)) _ _ (h .formed .records (o .account .0) (range .account))

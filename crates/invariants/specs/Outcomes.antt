@@ -45,11 +45,11 @@ certificate-body c m verdicts e =
     let c = through said (isPayment (payment (inside m))) (refuses 2) _ (lit< tt) (b .1) in
     rw (b .0, c .0)
 
-pub funding-order : (m : List ℕ) → said (readFunding m) ≡ 0 → isFunding (funding m) ≡ true
+pub funding-order : (m : List ℕ) → said (readFunding m) ≡ 0 → (laid m fundingFields ≡ true) × (isFunding (funding m) ≡ true)
 unfolding readFunding
 funding-order m e =
     let a = through said (laid m fundingFields) (refuses 1) _ (lit< tt) e in
-    through said (isFunding (funding m)) (refuses 2) _ (lit< tt) (a .1) .0
+    (a .0, through said (isFunding (funding m)) (refuses 2) _ (lit< tt) (a .1) .0)
 
 -- the values in a body are in range
 pub body-range : (body : List ℕ) → isBody body ≡ true → PaymentRange (payment body)
@@ -193,7 +193,7 @@ module _ (P : Outcome → Type 0) (rules : Rules) (s : List ℕ) (refusal : (n :
       moved judged settled (record { kind = kind; other = not-itself p other kind; enough = leb-true _ _ enough; room = leb-true _ _ room })))))))))))
 
   pub funding-cases : (m verdicts : List ℕ)
-      → (length verdicts ≡ 1 → good verdicts ≡ true → Funded (lastIndex s) (funding m) (recordOf rules s (funding m .account .0)) → P (outcome done (afterFunding rules s (funding m))))
+      → (laid m fundingFields ≡ true → length verdicts ≡ 1 → good verdicts ≡ true → Funded (lastIndex s) (funding m) (recordOf rules s (funding m .account .0)) → P (outcome done (afterFunding rules s (funding m))))
       → P (fundingOrder rules s m verdicts)
   unfolding fundingOrder credit creditOn
   funding-cases m verdicts funded =
@@ -206,7 +206,8 @@ module _ (P : Outcome → Type 0) (rules : Rules) (s : List ℕ) (refusal : (n :
       test (isFormed rules s (o .account .0)) 16 _ (lit< tt) (λ _.
       test (eqb (o .index .0) (lastIndex s + 1)) 12 _ (lit< tt) (λ index.
       test (leb (r .balance + o .amount) highest) 16 _ (lit< tt) (λ room.
-      funded (eqb-true _ _ one) verdict (record { range = funding-range o (funding-order m read); index = eqb-true _ _ index; room = leb-true _ _ room }))))))))
+      let f = funding-order m read in
+      funded (f .0) (eqb-true _ _ one) verdict (record { range = funding-range o (f .1); index = eqb-true _ _ index; room = leb-true _ _ room }))))))))
 
 -- and so does what holds of every answer that leaves the bytes, and of those that change them
 module _ (P : Outcome → Type 0) (rules : Rules) (s : List ℕ) (left : (answer : Said) → P (outcome answer s)) where
@@ -227,4 +228,4 @@ module _ (P : Outcome → Type 0) (rules : Rules) (s : List ℕ) (left : (answer
   pub funding-comes : (m verdicts : List ℕ)
       → (Funded (lastIndex s) (funding m) (recordOf rules s (funding m .account .0)) → P (outcome done (afterFunding rules s (funding m))))
       → P (fundingOrder rules s m verdicts)
-  funding-comes m verdicts funded = funding-cases P rules s (λ n _. left (refuses n)) m verdicts (λ _ _. funded)
+  funding-comes m verdicts funded = funding-cases P rules s (λ n _. left (refuses n)) m verdicts (λ _ _ _. funded)

@@ -39,6 +39,7 @@ counting-seats f = record { last = refl; enough = λ machines h. signers-enough 
 
 -- what the judge of a certificate found
 pub record Judged (c : wire.Committee) (m verdicts : List ℕ) : Type 0 where
+  pub laid-down : laid m certificateFields ≡ true
   pub count : length verdicts ≡ length (wire.signersIn m)
   pub known : wire.known (c .last) (wire.signersIn m) ≡ true
   pub rising : wire.rising (wire.signersIn m) ≡ true
@@ -57,6 +58,7 @@ judged c m verdicts e =
     let v = through said (wire.good verdicts) (refuses 4) _ (lit< tt) (r .1) in
     let q = through said (c .quorum (wire.signersIn m)) (refuses 7) _ (lit< tt) (v .1) in
     record {
+      laid-down = a .0;
       count = eqb-true _ _ (g .0) ∙ sym (length-signers m _ 68 (wire.votes m));
       known = k .0;
       rising = r .0;
@@ -96,4 +98,4 @@ certified f dishonest w m verdicts good fair =
     weighed (quorums.counting f) (wire.committee f) (counting-seats f) dishonest w m verdicts j (λ k i h.
     let p = place-of (wire.signersIn m) k i in
     let one = good-at verdicts (p .0) (j .good) (omega (arith, j .count)) in
-    rw (p .2) at (fair (p .0) (p .1) one) (known-most (wire.signersIn m) (3 * f) k (j .known) i, h))
+    rw (p .2) at (fair (j .laid-down) (p .0) (p .1) one) (known-most (wire.signersIn m) (3 * f) k (j .known) i, h))

@@ -12,6 +12,7 @@ use Rattle.model.specs.Lists.{In, sumOf}
 use Rattle.model.specs.Quorums.{count, counting, Few}
 use Rattle.model.specs.Histories.{debits, credits, fundings}
 use Rattle.model.specs.Worlds as model
+use Rattle.model.proofs.SumLaws.{sum-mono}
 use Rattle.model.proofs.QuorumLaws.{count-few}
 use Rattle.model.proofs.Safety.{unique, account-safe, solvent, listed, redeemable}
 use Rattle.wire.specs.Messages.{payment, inside}
@@ -30,9 +31,10 @@ use Rattle.ledger.specs.Answers.{paid}
 use Rattle.bookkeeping.specs.Theorems.{redeem-pays}
 use Rattle.bookkeeping.specs.Runs.{fund-never-16, redeem-never-16}
 use Rattle.safety.specs.Runs.{Call, Rulebook, InForce, Moment, answer}
-use Rattle.safety.specs.Demand3.{takes, brings, funds, Honest, OnHonest, FairVotes, Run, Good, Safe, Kept, Demand3}
+use Rattle.safety.specs.Demand3.{AtMostF, takes, brings, toLedger, funds, Honest, OnHonest, FairVotes, Run, Good, Safe, Kept, Demand3}
 use Rattle.safety.proofs.Papers.{papers, world, certain-counts, counts-certain}
 use Rattle.safety.proofs.Certificates.{judged, signers-once, certified}
+use Rattle.safety.proofs.Books.{amountIn}
 use Rattle.safety.proofs.Holding.{Follower, Holds, run-holds}
 
 -- two differences of equal distance are equal
@@ -69,7 +71,7 @@ in-turn s m verdicts limited good turn =
     (cond-case P (eqb (p .kind) 1) _ _ (λ _. refl) (λ account.
     need-holds P (leb (to .balance + p .amount) highest) _ _ (le-leb _ _ (room machine.base s (p .recipient) (p .amount) limited (to-account p range account) (range .amount))) refl))))
 
-module _ (f : ℕ) (dishonest : ℕ → Bool) (few : count dishonest (3 * f + 1) ≤ f) (w : Moment) (h : Holds f dishonest w) where
+module _ (f : ℕ) (dishonest : ℕ → Bool) (few : AtMostF f dishonest) (w : Moment) (h : Holds f dishonest w) where
   -- the dishonest are few
   minority : Few (counting f) dishonest
   minority = count-few f dishonest (omega (arith, few))
@@ -118,6 +120,10 @@ module _ (f : ℕ) (dishonest : ℕ → Bool) (few : count dishonest (3 * f + 1)
   never-16 (Call.fund out account amount) honest e = fund-never-16 out account amount (h .books .balanced) e
   never-16 (Call.redeem m verdicts) honest e = redeem-never-16 m verdicts (h .books .balanced) e
 
+  -- what is paid goes to the ledger whole
+  worth : (b : List ℕ) → In b (w .paid) → toLedger b ≡ amountIn b
+  worth b i = h .sound .paid-ledger b i
+
   kept : Kept f dishonest w
   kept = record {
     machines-formed = λ k honest. h .machines k honest .limited .formed;
@@ -130,6 +136,10 @@ module _ (f : ℕ) (dishonest : ℕ → Bool) (few : count dishonest (3 * f + 1)
         let money = own .follows .money x (omega arith) in
         shown-balance s x (own .limited .formed) l
         ∙ same-difference (machine.recordOf machine.base s x .balance) nought (sumOf (funds x) (fundings (w .did k)) + sumOf (brings x) (credits (w .did k))) (sumOf (takes x) (debits (w .did k))) (omega arith);
+    nexts = λ k honest x l. h .machines k honest .follows .turns .next-is x (omega arith);
+    indexes = λ k honest. h .machines k honest .index;
+    ledger-index = h .books .balanced .index;
+    pot = omega (arith, h .books .balanced .pot, sum-mono toLedger amountIn (w .paid) (λ b i. omega (arith, worth b i)), sum-mono amountIn toLedger (w .paid) (λ b i. omega (arith, worth b i)));
   }
 
 pub demand3 : Demand3

@@ -1,22 +1,24 @@
 -- What holds at every moment of a run, in the model's words: the start has it, and every call keeps it. Assumes nothing.
-use Prim.Native.Nat.{ℕ, _+_, _*_, _≤_, _<_}
+use Prim.Native.Nat.{ℕ, suc, _+_, _*_, _≤_, _<_}
 use mathlib.Core.Path.{_≡_, refl, sym, ap, _∙_}
 use mathlib.Core.Bool.{Bool, true, false, cond, false≢true}
 use mathlib.Core.List.{List, [], _∷_, _++_}
+use mathlib.Core.Logic.{inl, inr}
 use native.Mathlib.Omega.{arith}
 use lib.ListN.{length, getD, take}
-use lib.Dec.{eqb}
+use lib.Dec.{eqb, lit<}
 use borrow.Author.Tests.{eqb-true, eq-eqb}
 use Rattle.model.specs.Lists.{In, instead}
 use Rattle.model.specs.Quorums.{counting}
-use Rattle.model.specs.Histories.{Event, votes, Lawful}
+use Rattle.model.specs.Histories.{Event, votes, fundings, Lawful}
 use Rattle.model.specs.Worlds as model
-use Rattle.model.specs.Views.{Follows, events}
+use Rattle.model.specs.Views.{Effect, events, Follows, Changed}
 use Rattle.model.proofs.Following.{obeys, follows-given}
 use Rattle.model.proofs.Moves.{sound-unbegun, sound-acted, sound-gave, sound-paid-out, votes-stay}
 use Rattle.octets.specs.Octets.{number, bytes}
 use Rattle.wire.specs.Messages.{payment, inside}
 use Rattle.wire.specs.Votes.{committee}
+use Rattle.states.specs.Headers.{lastIndex}
 use Rattle.records.specs.Balances.{nought}
 use Rattle.records.specs.States as machine
 use Rattle.records.specs.Calls as on-machine
@@ -35,8 +37,18 @@ use Rattle.safety.proofs.Books.{Books, fresh-books, fund-books, redeem-
 -- a machine's bytes: they follow what it did, keep their distance from the limits, and name the committee of this f
 pub record Follower (f : ℕ) (given : List (List ℕ)) (s : List ℕ) (did : List (Event (List ℕ) (List ℕ))) : Type 0 where
   pub follows : Follows papers 64 nought given (shown machine.base s) did
+  pub index : lastIndex s ≡ length (fundings did)
   pub limited : Limited machine.base s
   pub seats : machine.base .committee s ≡ committee f
+
+-- an index counts the funding orders taken, whatever a call did
+counted : (given : List (List ℕ)) (s t : List ℕ) (did : List (Event (List ℕ) (List ℕ))) (e : Effect (List ℕ) (List ℕ))
+    → Changed papers 64 nought given (shown machine.base s) (shown machine.base t) e → lastIndex s ≡ length (fundings did) → lastIndex t ≡ length (fundings (events e ++ did))
+counted given s t did Effect.nothing c h = c .indexes 0 (lit< tt) ∙ h
+counted given s t did (Effect.newVote b) c h = c .indexes 0 (lit< tt) ∙ h
+counted given s t did (Effect.sameVote b) c h = c .2 .indexes 0 (lit< tt) ∙ h
+counted given s t did (Effect.settled b) c h = c .indexes 0 (lit< tt) ∙ h
+counted given s t did (Effect.took o) c h = elim (c .indexes _ (c .in-range)) [ inl e ↦ e .0 ∙ ap suc h | inr e ↦ absurd (e .1 refl) ]
 
 module _ (f : ℕ) (dishonest : ℕ → Bool) where
   -- what was done is sound, and the bytes of the honest machines and of the ledger follow it
@@ -49,7 +61,7 @@ module _ (f : ℕ) (dishonest : ℕ → Bool) where
   -- a fresh machine
   fresh-follower : (given : List (List ℕ)) (k : ℕ) → f ≤ 5 → k ≤ 3 * f → Follower f given (machine.freshState machine.base f k) []
   unfolding machine.freshState number bytes
-  fresh-follower given k h l = record { follows = fresh-follows given f k; limited = fresh-limits f k h l; seats = refl }
+  fresh-follower given k h l = record { follows = fresh-follows given f k; index = refl; limited = fresh-limits f k h l; seats = refl }
 
   pub holds-start : f ≤ 5 → Holds (start f)
   unfolding ledger.freshState number bytes
@@ -80,7 +92,7 @@ module _ (f : ℕ) (dishonest : ℕ → Bool) where
           (h .sound .lawful k (omega (arith, honest .0)) (honest .1)) (own .follows) (d .changed) (d .grounded)
 
       at : (n : ℕ) → Honest f dishonest n → (b : Bool) → Follower f (w .given) (cond b t (w .machines n)) (cond b longer (w .did n))
-      at n other true = record { follows = rw (d .history) (both .1); limited = limited; seats = seats ∙ own .seats }
+      at n other true = record { follows = rw (d .history) (both .1); index = rw (d .history) (counted (w .given) (w .machines k) t (w .did k) (d .effect) (d .changed) (own .index)); limited = limited; seats = seats ∙ own .seats }
       at n other false = h .machines n other
 
   -- one funding order more, or none, leaves what was done sound and the machines following
@@ -91,7 +103,7 @@ module _ (f : ℕ) (dishonest : ℕ → Bool) where
 
   given-follower : (given : List (List ℕ)) (t : Bool) (o s : List ℕ) (did : List (Event (List ℕ) (List ℕ))) → Follower f given s did → Follower f (cond t (o ∷ given) given) s did
   given-follower given true o s did m =
-      record { follows = follows-given papers 64 nought given (o ∷ []) (o ∷ given) (shown machine.base s) did refl (m .follows); limited = m .limited; seats = m .seats }
+      record { follows = follows-given papers 64 nought given (o ∷ []) (o ∷ given) (shown machine.base s) did refl (m .follows); index = m .index; limited = m .limited; seats = m .seats }
   given-follower given false o s did m = m
 
   -- a body that the ledger pays is certain, pays the ledger and was not paid before
@@ -121,7 +133,7 @@ module _ (f : ℕ) (dishonest : ℕ → Bool) where
   holds-call w h (Call.fundingOrder k m verdicts) honest fair =
       let own = h .machines k honest in
       holds-acts w h k honest _ _
-      (funding-does machine.base base-lays _ (w .given) (w .machines k) (own .limited .formed) (w .did k) m verdicts (h .books .numbered) (λ n g. fair (good-at verdicts 0 g (omega arith))))
+      (funding-does machine.base base-lays _ (w .given) (w .machines k) (own .limited .formed) (w .did k) m verdicts (h .books .numbered) (λ l n g. fair l (good-at verdicts 0 g (omega arith))))
       (funding-limited machine.base base-lays (w .machines k) m verdicts (own .limited))
       (funding-seats machine.base base-lays (w .machines k) m verdicts)
   holds-call w h (Call.fund out account amount) honest fair =
@@ -146,5 +158,5 @@ module _ (f : ℕ) (dishonest : ℕ → Bool) where
 
   -- so it holds at every moment of a run
   pub run-holds : f ≤ 5 → (w : Moment) → Run f dishonest w → Holds w
-  run-holds h w Run.begins = holds-start h
-  run-holds h w (Run.goes-on {w = v} run rules InForce.of01 call honest fair) = holds-call v (run-holds h v run) call honest fair
+  run-holds h w Run.starts-fresh = holds-start h
+  run-holds h w (Run.changes-by-call {w = v} run rules InForce.of01 call honest fair) = holds-call v (run-holds h v run) call honest fair

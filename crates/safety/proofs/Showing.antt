@@ -17,7 +17,8 @@ use Rattle.model.proofs.SumLaws.{only-le}
 use Rattle.model.proofs.Following.{follows-fresh}
 use Rattle.octets.specs.Octets.{two, bytes}
 use Rattle.octets.proofs.Laws.{length-bytes, number-put-out, cut-put}
-use Rattle.wire.specs.Messages.{payment, inside, funding}
+use Rattle.wire.specs.Fields.{laid}
+use Rattle.wire.specs.Messages.{fundingFields, payment, inside, funding}
 use Rattle.wire.specs.Votes.{good}
 use Rattle.wire.specs.Readers.{isBody, judgedBy}
 use Rattle.wire.proofs.FieldLaws.{both}
@@ -250,13 +251,13 @@ module _ (rules : Rules) (lays : Lays rules) (Certain : List ℕ → Type 0) (gi
       }
 
   -- a funding order with a good verdict was given
-  pub funding-does : Numbered given → (length verdicts ≡ 1 → good verdicts ≡ true → In m given)
+  pub funding-does : Numbered given → (laid m fundingFields ≡ true → length verdicts ≡ 1 → good verdicts ≡ true → In m given)
       → (let o = on-machine.fundingOrder rules s m verdicts in Does rules Certain given s (o .state) h (noted (o .answer) (Event.funded m) h))
   funding-does numbered gave =
       funding-cases (λ o. Does rules Certain given s (o .state) h (noted (o .answer) (Event.funded m) h)) rules s
       (λ n k. rw (ne-eqb n 0 (λ e. omega arith)) nothing) m verdicts
-      (λ one verdict v. let e : funding m .index .0 ≡ suc (lastIndex s) = omega (arith, v .index) in
-      takes v (rw e at (given-as given m numbered (gave one verdict))))
+      (λ laid-down one verdict v. let e : funding m .index .0 ≡ suc (lastIndex s) = omega (arith, v .index) in
+      takes v (rw e at (given-as given m numbered (gave laid-down one verdict))))
 
 -- the committee stays
 module _ (rules : Rules) (lays : Lays rules) (s m verdicts : List ℕ) where

@@ -1,5 +1,6 @@
 -- Demand 3: nobody can overspend, and the ledger can always pay. Said of the definitions that the contracts of `machine` and `ledger` cite.
--- A body and a funding order are their bytes; `payment` and `funding` are what they say.
+-- What stands in quotation marks is the demand's own sentence. A body and a funding order are their bytes; `payment` and `funding` are what
+-- they say.
 use Prim.Native.Nat.{ℕ, _+_, _*_, _≤_, _<_}
 use mathlib.Core.Path.{_≡_}
 use mathlib.Core.Bool.{Bool, true, false, _&&_, not}
@@ -11,9 +12,11 @@ use Rattle.model.specs.Lists.{In, isIn, Distinct, only, sumOf}
 use Rattle.model.specs.Quorums.{count}
 use Rattle.model.specs.Histories.{votes, debits, credits, fundings}
 use Rattle.octets.specs.Octets.{same}
-use Rattle.wire.specs.Messages.{payment, inside, funding}
+use Rattle.wire.specs.Fields.{laid}
+use Rattle.wire.specs.Messages.{certificateFields, fundingFields, payment, inside, funding}
 use Rattle.wire.specs.Votes.{committee, signersIn}
 use Rattle.wire.specs.Readers.{judgedBy}
+use Rattle.states.specs.Headers.{lastIndex}
 use Rattle.records.specs.States as machine
 use Rattle.records.specs.Answers.{confirmed}
 use Rattle.records.specs.Calls as on-machine
@@ -22,7 +25,8 @@ use Rattle.ledger.specs.Answers.{paid}
 use Rattle.invariants.specs.Meaning.{WellFormed}
 use Rattle.safety.specs.Runs.{Call, Rulebook, InForce, Moment, start, answer, after}
 
--- what a body takes from account x, brings account x, and brings the ledger; what a funding order brings account x, and in all
+-- what a body takes from account x, brings account x, and brings the ledger, and 1 if account x is its sender; what a funding order brings
+-- account x, and in all
 abbrev pub takes : ℕ → List ℕ → ℕ
 takes x b = only (eqb (payment b .sender .0) x) (payment b .amount)
 
@@ -32,19 +36,26 @@ brings x b = only (eqb (payment b .kind) 0 && eqb (payment b .recipient) x) (pay
 abbrev pub toLedger : List ℕ → ℕ
 toLedger b = only (eqb (payment b .kind) 1) (payment b .amount)
 
+abbrev pub isOf : ℕ → List ℕ → ℕ
+isOf x b = only (eqb (payment b .sender .0) x) 1
+
 abbrev pub funds : ℕ → List ℕ → ℕ
 funds x o = only (eqb (funding o .account .0) x) (funding o .amount)
 
 abbrev pub amountOf : List ℕ → ℕ
 amountOf o = funding o .amount
 
--- f, and which machines are dishonest
+-- "Take 3f + 1 settlement machines." f, and which of them are dishonest
 module _ (f : ℕ) (dishonest : ℕ → Bool) where
-  -- an honest machine: one of the 3f + 1 that is not dishonest
+  -- "At most f do as they like"
+  abbrev pub AtMostF : Type 0
+  AtMostF = count dishonest (3 * f + 1) ≤ f
+
+  -- a machine of "the rest"
   abbrev pub Honest : ℕ → Type 0
   Honest k = (k ≤ 3 * f) × (dishonest k ≡ false)
 
-  -- the machine that a call is on is honest: nothing is said of what dishonest ones do
+  -- a call is on an honest machine, or on the ledger: nothing at all is said of what a dishonest machine does
   abbrev pub OnHonest : Call → Type 0
   OnHonest (Call.order k m verdicts) = Honest k
   OnHonest (Call.certificate k m verdicts) = Honest k
@@ -52,68 +63,77 @@ module _ (f : ℕ) (dishonest : ℕ → Bool) where
   OnHonest (Call.fund out account amount) = Unit
   OnHonest (Call.redeem m verdicts) = Unit
 
-  -- a good verdict on an honest machine's vote means that that machine gave its vote for that very body
+  -- "A good verdict on an honest machine's vote [..] means that machine [..] really gave that one": of each vote of a certificate
   abbrev pub FairVotes : Moment → List ℕ → List ℕ → Type 0
-  FairVotes w m verdicts = (i : ℕ) → i < length (signersIn m) → getD verdicts i 0 ≡ 1
+  FairVotes w m verdicts = laid m certificateFields ≡ true → (i : ℕ) → i < length (signersIn m) → getD verdicts i 0 ≡ 1
       → (let k = getD (signersIn m) i 0 in Honest k → In (inside m) (votes (w .did k)))
 
-  -- and a good verdict on a funding order that the ledger wrote these very bytes
+  -- "or on a funding order, means that [..] the ledger really gave that one": these very bytes
+  abbrev pub FairFunding : Moment → List ℕ → List ℕ → Type 0
+  FairFunding w m verdicts = laid m fundingFields ≡ true → getD verdicts 0 0 ≡ 1 → In m (w .given)
+
   abbrev pub Fair : Moment → Call → Type 0
   Fair w (Call.order k m verdicts) = Unit
   Fair w (Call.certificate k m verdicts) = FairVotes w m verdicts
-  Fair w (Call.fundingOrder k m verdicts) = getD verdicts 0 0 ≡ 1 → In m (w .given)
+  Fair w (Call.fundingOrder k m verdicts) = FairFunding w m verdicts
   Fair w (Call.fund out account amount) = Unit
   Fair w (Call.redeem m verdicts) = FairVotes w m verdicts
 
-  -- after any messages in any order: machines and ledger change only by their calls
+  -- "the rest, like the ledger, start fresh once with that f, each under its own number, and change only by their calls"
   pub data Run : Moment → Type 0 where
-    begins : Run (start f)
-    goes-on : {w : Moment} → Run w → (rules : Rulebook) → InForce rules → (call : Call) → OnHonest call → Fair w call → Run (after rules w call)
+    starts-fresh : Run (start f)
+    changes-by-call : {w : Moment} → Run w → (rules : Rulebook) → InForce rules → (call : Call) → OnHonest call → Fair w call → Run (after rules w call)
 
-  -- a payment is certain once its honest votes plus the number of dishonest machines reach 2f + 1
+  -- "Call a payment certain once its honest votes plus the number of dishonest machines reach 2f + 1."
   abbrev pub Certain : Moment → List ℕ → Type 0
   Certain w b = 2 * f + 1 ≤ count (λ k. not (dishonest k) && isIn same b (votes (w .did k))) (3 * f + 1) + count dishonest (3 * f + 1)
 
-  -- a good certificate: well laid out, in range, with good verdicts alone, from a quorum
+  -- a good certificate: laid out and in range, with good verdicts alone, from a quorum
   abbrev pub Good : List ℕ → List ℕ → Type 0
   Good m verdicts = judgedBy (committee f) m verdicts .number ≡ 0
 
+  -- "After any messages in any order:"
   pub record Safe (w : Moment) : Type 0 where
-    -- the certain payments: a list that holds each of them once, and nothing else
+    -- the certain payments, as a list that holds each of them once, and nothing else
     pub certains : List (List ℕ)
     pub each-once : Distinct certains
     pub only-certain : (b : List ℕ) → In b certains → Certain w b
     pub all-certain : (b : List ℕ) → Certain w b → In b certains
-    -- no account has two certain payments under one sequence number
+    -- "no account has two certain payments under one sequence number"
     pub one-a-number : (b c : List ℕ) → Certain w b → Certain w c → payment b .sender .0 ≡ payment c .sender .0 → payment b .sequence .0 ≡ payment c .sequence .0 → b ≡ c
-    -- no account's certain payments exceed its funding plus the certain payments to it
+    -- "no account's certain payments exceed its funding plus the certain payments to it"
     pub covered : (x : ℕ) → sumOf (takes x) certains ≤ sumOf (funds x) (w .given) + sumOf (brings x) certains
-    -- the certain payments to the ledger never exceed all funding
+    -- "the certain payments to the ledger never exceed all funding"
     pub solvent : sumOf toLedger certains ≤ sumOf amountOf (w .given)
-    -- a good certificate to the ledger, not yet redeemed, is paid whole
+    -- "a good certificate to the ledger, not yet redeemed, is paid whole"
     pub payable : (rules : Rulebook) → InForce rules → (m verdicts : List ℕ) → Good m verdicts → FairVotes w m verdicts → payment (inside m) .kind ≡ 1
         → (In (inside m) (w .paid) → ⊥) → answer rules w (Call.redeem m verdicts) ≡ paid (payment (inside m) .recipient) (payment (inside m) .amount)
-    -- one body is one payment, redeemed once under any votes; only certain payments to the ledger are
+    -- "one body is one payment, redeemed once under any votes": and only a certain one to the ledger is
     pub paid-once : Distinct (w .paid)
     pub paid-certain : (b : List ℕ) → In b (w .paid) → Certain w b × (payment b .kind ≡ 1)
-    -- and each machine counts once for it
+    -- "and each machine counts once for it"
     pub counted-once : (m verdicts : List ℕ) → Good m verdicts → Distinct (signersIn m)
 
-  -- what holds of the bytes besides
+  -- what the bytes show besides
   pub record Kept (w : Moment) : Type 0 where
     -- every state is well formed
     pub machines-formed : (k : ℕ) → Honest k → WellFormed machine.base (w .machines k)
     pub ledger-formed : ledger.isState ledger.base (w .ledger) ≡ true
     -- no call meets a limit on balance or pot
     pub unlimited : (rules : Rulebook) → InForce rules → (call : Call) → OnHonest call → answer rules w call .number ≡ 16 → ⊥
-    -- a certificate counts when it comes, even if a balance dips below zero: in its turn a good one is confirmed
+    -- "A certificate must count when it comes, even if a balance dips below zero until the credit arrives": in its turn a good one is confirmed
     pub counts : (rules : Rulebook) → InForce rules → (k : ℕ) → Honest k → (m verdicts : List ℕ) → Good m verdicts
         → payment (inside m) .sequence .0 ≡ machine.recordOf machine.base (w .machines k) (payment (inside m) .sender .0) .next .0
         → answer rules w (Call.certificate k m verdicts) ≡ confirmed (length (signersIn m))
-    -- a balance is the funding taken plus the confirmed credits less the confirmed payments; it may be negative in between
-    pub balances : (k : ℕ) → Honest k → (x : ℕ) → x ≤ 63
-        → on-machine.account machine.base (w .machines k) x .balance ≡ subℕ (sumOf (funds x) (fundings (w .did k)) + sumOf (brings x) (credits (w .did k))) (sumOf (takes x) (debits (w .did k)))
+    -- a balance is the funding taken plus the confirmed credits less the confirmed payments; it may be negative
+    pub balances : (k : ℕ) → Honest k → (x : ℕ) → x ≤ 63 → on-machine.account machine.base (w .machines k) x .balance
+        ≡ subℕ (sumOf (funds x) (fundings (w .did k)) + sumOf (brings x) (credits (w .did k))) (sumOf (takes x) (debits (w .did k)))
+    -- a next sequence is the number of confirmed payments, an index that of the funding orders taken or given, the pot all funding less what was paid
+    pub nexts : (k : ℕ) → Honest k → (x : ℕ) → x ≤ 63 → machine.recordOf machine.base (w .machines k) x .next .0 ≡ sumOf (isOf x) (debits (w .did k))
+    pub indexes : (k : ℕ) → Honest k → lastIndex (w .machines k) ≡ length (fundings (w .did k))
+    pub ledger-index : lastIndex (w .ledger) ≡ length (w .given)
+    pub pot : ledger.pot (w .ledger) + sumOf toLedger (w .paid) ≡ sumOf amountOf (w .given)
 
--- take 3f + 1 machines, of which at most f do as they like. After any messages in any order all of this holds
+-- the third demand, for every f of 01
 abbrev pub Demand3 : Type 0
-Demand3 = (f : ℕ) → f ≤ 5 → (dishonest : ℕ → Bool) → count dishonest (3 * f + 1) ≤ f → (w : Moment) → Run f dishonest w → Safe f dishonest w × Kept f dishonest w
+Demand3 = (f : ℕ) → f ≤ 5 → (dishonest : ℕ → Bool) → AtMostF f dishonest → (w : Moment) → Run f dishonest w → Safe f dishonest w × Kept f dishonest w
