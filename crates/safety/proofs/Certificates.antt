@@ -24,7 +24,7 @@ use Rattle.roundtrip.specs.Answers.{through, said}
 use Rattle.roundtrip.specs.VoteLaws.{length-signers}
 use Rattle.roundtrip.specs.Voters.{rising-distinct, known-most}
 use Rattle.safety.specs.Runs.{Moment}
-use Rattle.safety.specs.Demand3.{Honest, FairVotes, Good}
+use Rattle.safety.specs.Demand3.{FairVotes}
 use Rattle.safety.proofs.Papers.{papers, world}
 
 -- a committee as a header names it is one of the model: its last number, and enough machines of it weigh enough
@@ -83,19 +83,21 @@ good-at [] i g h = absurd (omega arith)
 good-at (v ∷ vs) zero g h = eqb-true v 1 (both (eqb v 1) (wire.good vs) g .0)
 good-at (v ∷ vs) (suc i) g h = good-at vs i (both (eqb v 1) (wire.good vs) g .1) (omega arith)
 
--- a good certificate whose honest signers voted for its body makes that certain, by weight
-pub weighed : (C : quorums.Committee) (c : wire.Committee) → Seats C c → (dishonest : ℕ → Bool) (w : Moment) (m verdicts : List ℕ) → Judged c m verdicts
-    → ((k : ℕ) → In k (wire.signersIn m) → dishonest k ≡ false → In (inside m) (votes (w .did k))) → model.Certain papers C dishonest (world w) (inside m)
-weighed C c seats dishonest w m verdicts j voted =
-    good-certificate papers C dishonest (world w) (inside m) (wire.signersIn m) (signers-once c m verdicts j)
-    (λ k i. (omega (arith, known-most (wire.signersIn m) (c .last) k (j .known) i, seats .last), voted k i)) (seats .enough (wire.signersIn m) (j .quorum))
+-- the honest signers of a certificate that is judged good voted for its body
+abbrev pub Vouched : (ℕ → Bool) → Moment → wire.Committee → List ℕ → List ℕ → Type 0
+Vouched dishonest w c m verdicts = Judged c m verdicts → (k : ℕ) → In k (wire.signersIn m) → dishonest k ≡ false → In (inside m) (votes (w .did k))
 
--- and under fair verdicts they did
-pub certified : (f : ℕ) (dishonest : ℕ → Bool) (w : Moment) (m verdicts : List ℕ) → Good f dishonest m verdicts → FairVotes f dishonest w m verdicts
-    → model.Certain papers (quorums.counting f) dishonest (world w) (inside m)
-certified f dishonest w m verdicts good fair =
-    let j = judged (wire.committee f) m verdicts good in
-    weighed (quorums.counting f) (wire.committee f) (counting-seats f) dishonest w m verdicts j (λ k i h.
+-- so its body is certain, by weight
+pub certified : (C : quorums.Committee) (c : wire.Committee) → Seats C c → (dishonest : ℕ → Bool) (w : Moment) (m verdicts : List ℕ) → judgedBy c m verdicts .number ≡ 0
+    → Vouched dishonest w c m verdicts → model.Certain papers C dishonest (world w) (inside m)
+certified C c seats dishonest w m verdicts good voted =
+    let j = judged c m verdicts good in
+    good-certificate papers C dishonest (world w) (inside m) (wire.signersIn m) (signers-once c m verdicts j)
+    (λ k i. (omega (arith, known-most (wire.signersIn m) (c .last) k (j .known) i, seats .last), voted j k i)) (seats .enough (wire.signersIn m) (j .quorum))
+
+-- fair verdicts vouch
+pub fair-votes : (f : ℕ) (dishonest : ℕ → Bool) (w : Moment) (m verdicts : List ℕ) → FairVotes f dishonest w m verdicts → Vouched dishonest w (wire.committee f) m verdicts
+fair-votes f dishonest w m verdicts fair j k i h =
     let p = place-of (wire.signersIn m) k i in
     let one = good-at verdicts (p .0) (j .good) (omega (arith, j .count)) in
-    rw (p .2) at (fair (j .laid-down) (p .0) (p .1) one) (known-most (wire.signersIn m) (3 * f) k (j .known) i, h))
+    rw (p .2) at (fair (j .laid-down) (p .0) (p .1) one) (known-most (wire.signersIn m) (3 * f) k (j .known) i, h)

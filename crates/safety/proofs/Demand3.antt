@@ -33,9 +33,10 @@ use Rattle.bookkeeping.specs.Runs.{fund-never-16, redeem-never-16}
 use Rattle.safety.specs.Runs.{Call, Rulebook, InForce, Moment, answer}
 use Rattle.safety.specs.Demand3.{AtMostF, takes, brings, toLedger, funds, Honest, OnHonest, FairVotes, Run, Good, Safe, Kept, Demand3}
 use Rattle.safety.proofs.Papers.{papers, world, certain-counts, counts-certain}
-use Rattle.safety.proofs.Certificates.{judged, signers-once, certified}
+use Rattle.safety.proofs.Certificates.{counting-seats, judged, signers-once, fair-votes, certified}
 use Rattle.safety.proofs.Books.{amountIn}
-use Rattle.safety.proofs.Holding.{Follower, Holds, run-holds}
+use Rattle.safety.proofs.Holding.{Follower}
+use Rattle.safety.proofs.Running.{Holds, member, run-holds}
 
 -- two differences of equal distance are equal
 same-difference : (a b c d : ℕ) → a + d ≡ b + c → subℕ a b ≡ subℕ c d
@@ -76,6 +77,14 @@ module _ (f : ℕ) (dishonest : ℕ → Bool) (few : AtMostF f dishonest) (w : M
   minority : Few (counting f) dishonest
   minority = count-few f dishonest (omega (arith, few))
 
+  -- a good certificate with fair verdicts makes its body certain
+  certain : (m verdicts : List ℕ) → Good f dishonest m verdicts → FairVotes f dishonest w m verdicts → model.Certain papers (counting f) dishonest (world w) (inside m)
+  certain m verdicts good fair = certified (counting f) (committee f) (counting-seats f) dishonest w m verdicts good (fair-votes f dishonest w m verdicts fair)
+
+  -- an honest machine's bytes
+  own : (k : ℕ) → Honest f dishonest k → Follower (committee f) (w .given) (w .machines k) (w .did k)
+  own k honest = h .machines k (member f dishonest k (honest .0)) (honest .1)
+
   -- a good certificate to the ledger that was not paid before: its bit is clear, since another body under its number would be certain too
   unlogged : (m verdicts : List ℕ) → Good f dishonest m verdicts → FairVotes f dishonest w m verdicts → (In (inside m) (w .paid) → ⊥)
       → (t : Bool) → ledger.isRedeemed ledger.base (w .ledger) (payment (inside m) .sender .0) (payment (inside m) .sequence .0) ≡ t → t ≡ false
@@ -83,7 +92,7 @@ module _ (f : ℕ) (dishonest : ℕ → Bool) (few : AtMostF f dishonest) (w : M
       let range = body-range (inside m) (certificate-body (committee f) m verdicts good) in
       let b = h .books .log-only _ _ (range .sequence) e in
       let equal : b .0 ≡ inside m =
-      unique papers (counting f) dishonest minority (world w) (h .sound) (b .0) (inside m) (h .sound .paid-certain (b .0) (b .1)) (certified f dishonest w m verdicts good fair) (b .2) (b .3) in
+      unique papers (counting f) dishonest minority (world w) (h .sound) (b .0) (inside m) (h .sound .paid-certain (b .0) (b .1)) (certain m verdicts good fair) (b .2) (b .3) in
       absurd (unpaid (rw equal at (b .1)))
   unlogged m verdicts good fair unpaid false e = refl
 
@@ -91,7 +100,7 @@ module _ (f : ℕ) (dishonest : ℕ → Bool) (few : AtMostF f dishonest) (w : M
   paid-whole : (m verdicts : List ℕ) → Good f dishonest m verdicts → FairVotes f dishonest w m verdicts → payment (inside m) .kind ≡ 1 → (In (inside m) (w .paid) → ⊥)
       → answer (record { machines = machine.base; ledger = ledger.base }) w (Call.redeem m verdicts) ≡ paid (payment (inside m) .recipient) (payment (inside m) .amount)
   paid-whole m verdicts good fair kind unpaid =
-      let sum = redeemable papers (counting f) dishonest minority (world w) (h .sound) (inside m) (certified f dishonest w m verdicts good fair) (rw kind refl) unpaid in
+      let sum = redeemable papers (counting f) dishonest minority (world w) (h .sound) (inside m) (certain m verdicts good fair) (rw kind refl) unpaid in
       redeem-pays ledger.base (w .ledger) m verdicts (h .books .balanced .state) (rw (h .seats) good) kind (unlogged m verdicts good fair unpaid _ refl)
       (omega (arith, sum, h .books .balanced .pot))
 
@@ -114,9 +123,9 @@ module _ (f : ℕ) (dishonest : ℕ → Bool) (few : AtMostF f dishonest) (w : M
 
   -- no call answers 16
   never-16 : (call : Call) → OnHonest f dishonest call → answer (record { machines = machine.base; ledger = ledger.base }) w call .number ≡ 16 → ⊥
-  never-16 (Call.order k m verdicts) honest e = omega (arith, order-low (w .machines k) m verdicts (h .machines k honest .limited))
-  never-16 (Call.certificate k m verdicts) honest e = omega (arith, certificate-low (w .machines k) m verdicts (h .machines k honest .limited))
-  never-16 (Call.fundingOrder k m verdicts) honest e = omega (arith, funding-low (w .machines k) m verdicts (h .machines k honest .limited))
+  never-16 (Call.order k m verdicts) honest e = omega (arith, order-low (w .machines k) m verdicts (own k honest .limited))
+  never-16 (Call.certificate k m verdicts) honest e = omega (arith, certificate-low (w .machines k) m verdicts (own k honest .limited))
+  never-16 (Call.fundingOrder k m verdicts) honest e = omega (arith, funding-low (w .machines k) m verdicts (own k honest .limited))
   never-16 (Call.fund out account amount) honest e = fund-never-16 out account amount (h .books .balanced) e
   never-16 (Call.redeem m verdicts) honest e = redeem-never-16 m verdicts (h .books .balanced) e
 
@@ -126,18 +135,18 @@ module _ (f : ℕ) (dishonest : ℕ → Bool) (few : AtMostF f dishonest) (w : M
 
   kept : Kept f dishonest w
   kept = record {
-    machines-formed = λ k honest. h .machines k honest .limited .formed;
+    machines-formed = λ k honest. own k honest .limited .formed;
     ledger-formed = h .books .balanced .state;
     unlimited = λ rules. elim [ InForce.of01 ↦ never-16 ];
-    counts = λ rules. elim [ InForce.of01 ↦ λ k honest m verdicts good turn. in-turn (w .machines k) m verdicts (h .machines k honest .limited) (rw (h .machines k honest .seats) good) turn ];
+    counts = λ rules. elim [ InForce.of01 ↦ λ k honest m verdicts good turn. in-turn (w .machines k) m verdicts (own k honest .limited) (rw (own k honest .seats) good) turn ];
     balances = λ k honest x l.
-        let own = h .machines k honest in
+        let bytes = own k honest in
         let s = w .machines k in
-        let money = own .follows .money x (omega arith) in
-        shown-balance s x (own .limited .formed) l
+        let money = bytes .follows .money x (omega arith) in
+        shown-balance s x (bytes .limited .formed) l
         ∙ same-difference (machine.recordOf machine.base s x .balance) nought (sumOf (funds x) (fundings (w .did k)) + sumOf (brings x) (credits (w .did k))) (sumOf (takes x) (debits (w .did k))) (omega arith);
-    nexts = λ k honest x l. h .machines k honest .follows .turns .next-is x (omega arith);
-    indexes = λ k honest. h .machines k honest .index;
+    nexts = λ k honest x l. own k honest .follows .turns .next-is x (omega arith);
+    indexes = λ k honest. own k honest .index;
     ledger-index = h .books .balanced .index;
     pot = omega (arith, h .books .balanced .pot, sum-mono toLedger amountIn (w .paid) (λ b i. omega (arith, worth b i)), sum-mono amountIn toLedger (w .paid) (λ b i. omega (arith, worth b i)));
   }

@@ -3,4 +3,5 @@ pub mod Certificates
 pub mod Showing
 pub mod Books
 pub mod Holding
+pub mod Running
 pub mod Demand3
