@@ -119,7 +119,7 @@ module _ (K : Payments) (C : Committee) (dishonest : Machines) where
 
           sums : (g : List (Event Body Order)) → Lawful K (Certain K C dishonest w) (w .given) g → MayVote K g b → sumOf (outOf K x) l ≤ sumOf (fundTo K x) (w .given) + sumOf (into K x) l
           sums g lg m =
-              let own : amount b + sumOf (outOf K x) (debits g) ≤ sumOf (fundTo K x) (fundings g) + sumOf (into K x) (credits g) = rw (t .from) at (m .covered) in
+              let own = rw (t .from) at (m .covered) in
               omega (
                 arith,
                 sum-sub (outOf K x) l (b ∷ debits g) (all .once) (λ c i p. in-h g lg m c i (only-where (sender c) x (amount c) p)),
