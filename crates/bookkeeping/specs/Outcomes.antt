@@ -1,15 +1,13 @@
 -- What a call on the ledger can come to: the bytes as they were, or new ones, with what the tests on the way said. Assumes nothing.
 use Prim.Native.Nat.{ℕ, _+_, _-_, _≤_, _<_}
-use mathlib.Core.Path.{_≡_, refl}
+use mathlib.Core.Path.{_≡_}
 use mathlib.Core.Bool.{true, false}
 use mathlib.Core.List.{List}
-use native.Mathlib.Omega.{arith}
 use lib.ListN.{length}
 use lib.Dec.{leb, ltb, eqb, lit<}
 use borrow.Author.Tests.{leb-true, ltb-true, eqb-true}
 use Rattle.octets.specs.Octets.{put}
 use Rattle.wire.specs.Numbers.{isFaults, isAccount, isAmount}
-use Rattle.wire.specs.Fields.{need}
 use Rattle.wire.specs.Messages.{payment, inside, fundingBytes}
 use Rattle.wire.specs.Readers.{judgedBy}
 use Rattle.wire.specs.declared.kinds.Payment.{Payment}

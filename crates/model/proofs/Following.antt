@@ -7,9 +7,8 @@ use mathlib.Core.Option.{Option, none, some}
 use native.Mathlib.Decide.{ℕ-discrete}
 use native.Mathlib.Omega.{arith}
 use native.Mathlib.Nat.{zero-add}
-use lib.ListN.{length}
 use Rattle.model.specs.Lists.{In, sumOf}
-use Rattle.model.specs.Histories.{Payments, Event, votes, debits, credits, fundings, outOf, into, isOf, fundTo, next, MayVote, Lawful}
+use Rattle.model.specs.Histories.{Payments, Event, votes, debits, fundings, isOf, fundTo, next, MayVote, Lawful}
 use Rattle.model.specs.Views.{Shown, GaveAs, Taken, Effect, events, Turns, Follows, SameTurns, Same, VotedNew, Settled, Took, Changed, Grounded}
 use Rattle.model.proofs.SumLaws.{sum-append, suffix-same, only-here, only-elsewhere}
 use Rattle.model.proofs.HistoryLaws.{vote-below, debit-below, credit-debit}

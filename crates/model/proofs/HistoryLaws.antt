@@ -1,12 +1,12 @@
 -- What follows for one machine from its history being lawful. Assumes nothing.
-use Prim.Native.Nat.{ℕ, _+_, _≤_, _<_}
+use Prim.Native.Nat.{ℕ, _≤_, _<_}
 use mathlib.Core.Path.{_≡_, refl, sym, ap, _∙_, subst}
 use mathlib.Core.Logic.{_⊎_, inl, inr}
 use mathlib.Core.List.{List, [], _∷_}
 use native.Mathlib.Decide.{ℕ-discrete, decLt}
 use native.Mathlib.Omega.{arith}
 use Rattle.model.specs.Lists.{In, Distinct, sumOf}
-use Rattle.model.specs.Histories.{Payments, Event, votes, debits, credits, fundings, outOf, into, isOf, fundTo, next, MayVote, Allowed, Lawful}
+use Rattle.model.specs.Histories.{Payments, Event, votes, debits, credits, fundings, fundTo, next, MayVote, Lawful}
 use Rattle.model.proofs.SumLaws.{only-here, only-elsewhere}
 
 module _ (K : Payments) (Certain : K .Body → Type 0) (given : List (K .Order)) where

@@ -9,9 +9,9 @@ use native.Mathlib.Omega.{arith}
 use lib.Dec.{eqb}
 use Rattle.model.specs.Lists.{In, isIn, Distinct, only, sumOf, upTo}
 use Rattle.model.specs.Quorums.{Committee, Machines, total, Quorum, Few}
-use Rattle.model.specs.Histories.{Payments, Event, votes, debits, credits, fundings, outOf, into, toLedger, isOf, fundTo, next, MayVote, Lawful}
+use Rattle.model.specs.Histories.{Payments, Event, votes, debits, credits, outOf, into, toLedger, fundTo, next, MayVote, Lawful}
 use Rattle.model.specs.Worlds.{World, voters, Certain, Sound, Listed}
-use Rattle.model.proofs.SumLaws.{only-here, only-elsewhere, only-where, only-le, is-in, in-is, sum-append, sum-mono, sum-zero, sum-add, sum-in, sum-sub, in-left, in-right, upTo-mono, upTo-add, swap, one-is, one-le, one-both}
+use Rattle.model.proofs.SumLaws.{only-here, only-elsewhere, only-where, only-le, is-in, in-is, sum-mono, sum-zero, sum-add, sum-in, sum-sub, in-left, in-right, upTo-mono, upTo-add, swap, one-is, one-le, one-both}
 use Rattle.model.proofs.QuorumLaws.{meet, signed-quorum}
 use Rattle.model.proofs.HistoryLaws.{vote-was-new, one-vote, debit-certain, debit-each, credit-debit, credit-once, funding-le}
 

@@ -1,6 +1,6 @@
 -- Demand 3 holds. Assumes nothing.
-use Prim.Native.Nat.{ℕ, _+_, _-_, _*_, _≤_, _<_}
-use mathlib.Core.Path.{_≡_, refl, sym, ap, _∙_}
+use Prim.Native.Nat.{ℕ, _+_, _≤_}
+use mathlib.Core.Path.{_≡_, refl, ap, _∙_}
 use mathlib.Core.Bool.{Bool, true, false}
 use mathlib.Core.List.{List}
 use native.Mathlib.Omega.{arith}
@@ -9,7 +9,7 @@ use lib.Dec.{leb, ltb, eqb}
 use lib.IntN.{pos, negsuc, subℕ}
 use borrow.Author.Tests.{ltb-true, ltb-false, lt-ltb, le-ltb, le-leb, eq-eqb}
 use Rattle.model.specs.Lists.{In, sumOf}
-use Rattle.model.specs.Quorums.{count, counting, Few}
+use Rattle.model.specs.Quorums.{counting, Few}
 use Rattle.model.specs.Histories.{debits, credits, fundings}
 use Rattle.model.specs.Worlds as model
 use Rattle.model.proofs.SumLaws.{sum-mono}
@@ -30,8 +30,8 @@ use Rattle.ledger.specs.States as ledger
 use Rattle.ledger.specs.Answers.{paid}
 use Rattle.bookkeeping.specs.Theorems.{redeem-pays}
 use Rattle.bookkeeping.specs.Runs.{fund-never-16, redeem-never-16}
-use Rattle.safety.specs.Runs.{Call, Rulebook, InForce, Moment, answer}
-use Rattle.safety.specs.Demand3.{AtMostF, takes, brings, toLedger, funds, Honest, OnHonest, FairVotes, Run, Good, Safe, Kept, Demand3}
+use Rattle.safety.specs.Runs.{Call, InForce, Moment, answer}
+use Rattle.safety.specs.Demand3.{AtMostF, takes, brings, toLedger, funds, Honest, OnHonest, FairVotes, Good, Safe, Kept, Demand3}
 use Rattle.safety.proofs.Papers.{papers, world, certain-counts, counts-certain}
 use Rattle.safety.proofs.Certificates.{counting-seats, judged, signers-once, fair-votes, certified}
 use Rattle.safety.proofs.Books.{amountIn}

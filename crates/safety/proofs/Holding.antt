@@ -1,5 +1,5 @@
 -- What holds at every moment of a run, in the model's words and for a committee by weight: every call keeps it. Assumes nothing.
-use Prim.Native.Nat.{ℕ, suc, _+_, _<_}
+use Prim.Native.Nat.{ℕ, suc, _<_}
 use mathlib.Core.Path.{_≡_, refl, sym, ap, _∙_}
 use mathlib.Core.Bool.{Bool, true, false, cond, false≢true}
 use mathlib.Core.List.{List, [], _∷_, _++_}
@@ -9,13 +9,13 @@ use lib.Dec.{eqb, lit<}
 use borrow.Author.Tests.{eqb-true}
 use Rattle.model.specs.Lists.{In}
 use Rattle.model.specs.Quorums as quorums
-use Rattle.model.specs.Histories.{Event, votes, fundings, Lawful}
+use Rattle.model.specs.Histories.{Event, fundings, Lawful}
 use Rattle.model.specs.Worlds as model
 use Rattle.model.specs.Views.{Effect, events, Follows, Changed}
 use Rattle.model.proofs.Following.{obeys, follows-given}
 use Rattle.model.proofs.Moves.{sound-acted, sound-gave, sound-paid-out, votes-stay}
 use Rattle.wire.specs.Fields.{laid}
-use Rattle.wire.specs.Messages.{fundingFields, payment, inside}
+use Rattle.wire.specs.Messages.{fundingFields, inside}
 use Rattle.wire.specs.Votes as wire
 use Rattle.states.specs.Headers.{lastIndex}
 use Rattle.records.specs.Balances.{nought}

@@ -1,8 +1,8 @@
 -- The runs of the page: the start has what holds, and so has every moment. Assumes nothing.
 use Prim.Native.Nat.{ℕ, _*_, _≤_, _<_}
-use mathlib.Core.Path.{_≡_, refl}
+use mathlib.Core.Path.{refl}
 use mathlib.Core.Bool.{Bool}
-use mathlib.Core.List.{List, []}
+use mathlib.Core.List.{[]}
 use native.Mathlib.Omega.{arith}
 use Rattle.model.specs.Quorums.{counting}
 use Rattle.model.proofs.Moves.{sound-unbegun}
@@ -12,7 +12,7 @@ use Rattle.records.specs.States as machine
 use Rattle.invariants.specs.Theorems.{fresh-limits}
 use Rattle.ledger.specs.States as ledger
 use Rattle.safety.specs.Runs.{Call, InForce, Moment, start}
-use Rattle.safety.specs.Demand3.{Honest, OnHonest, Fair, Run}
+use Rattle.safety.specs.Demand3.{OnHonest, Fair, Run}
 use Rattle.safety.proofs.Papers.{papers}
 use Rattle.safety.proofs.Certificates.{counting-seats, good-at, fair-votes}
 use Rattle.safety.proofs.Showing.{fresh-follows}
