@@ -5,3 +5,4 @@ pub mod Books
 pub mod Holding
 pub mod Running
 pub mod Demand3
+pub mod Example
