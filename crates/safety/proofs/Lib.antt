@@ -5,4 +5,6 @@ pub mod Books
 pub mod Holding
 pub mod Running
 pub mod Demand3
+pub mod Checking
 pub mod Example
+pub mod Needed
