@@ -95,11 +95,11 @@ unfolding isIn number bytes put same allZero fields.past fields.pastAll fields.a
 messages = tt
 
 -- a machine's calls
-unfoldable pub machines : Unit {0}
+unfoldable pub machine-calls : Unit {0}
 unfolding recordAt headBytes recordBytes isPending inRange isRecord holding paid credited machine.isBaseHeader machine.isState machine.freshState on-machine.voteOn on-machine.vote on-machine.order on-machine.pay on-machine.settleOn on-machine.settle on-machine.certificate on-machine.creditOn on-machine.credit on-machine.fundingOrder on-machine.account
-machines = tt
+machine-calls = tt
 
 -- the ledger's calls
-unfoldable pub desk : Unit {0}
+unfoldable pub ledger-calls : Unit {0}
 unfolding ledger.isBaseHeader ledger.isState ledger.isRedeemed ledger.withRedeemed ledger.freshState on-ledger.fund on-ledger.pay on-ledger.redeem
-desk = tt
+ledger-calls = tt

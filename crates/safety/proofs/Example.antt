@@ -6,11 +6,11 @@ use Rattle.safety.specs.Runs.{start}
 use Rattle.safety.specs.Demand3.{Run, Certain, Safe, Kept}
 use Rattle.safety.specs.Example.{answers, rulesOf01, isThree, e1, payout, bodyOf, morning, day, dayAnswers, reached, balance}
 use Rattle.safety.proofs.Demand3.{demand3}
-use Rattle.safety.proofs.Checking.{checked, messages, machines, desk}
+use Rattle.safety.proofs.Checking.{checked, messages, machine-calls, ledger-calls}
 
 -- the day is a run
 pub day-runs : Run 1 isThree (reached day)
-unfolding messages machines desk
+unfolding messages machine-calls ledger-calls
 day-runs = checked 1 isThree (start 1) day Run.starts-fresh refl
 
 -- so demand 3 speaks of it
@@ -19,15 +19,15 @@ day-safe = demand3 1 (lit≤ tt) isThree (lit≤ tt) (reached day) day-runs
 
 -- its calls get the answers that stand beside them
 pub day-answers : answers rulesOf01 (start 1) day ≡ dayAnswers
-unfolding messages machines desk
+unfolding messages machine-calls ledger-calls
 day-answers = refl
 
 -- machine 2 shows account 2 at -1,500 after the early certificate, and at 500 at the end
 pub day-balances : (balance (reached morning) 2 2 ≡ negsuc 1_499) × (balance (reached day) 2 2 ≡ pos 500)
-unfolding messages machines desk
+unfolding messages machine-calls ledger-calls
 day-balances = (refl, refl)
 
 -- both payments are certain at the end
 pub day-certain : Certain 1 isThree (reached day) (bodyOf e1) × Certain 1 isThree (reached day) (bodyOf payout)
-unfolding messages machines desk
+unfolding messages machine-calls ledger-calls
 day-certain = (lit≤ tt, lit≤ tt)
