@@ -54,8 +54,10 @@ module _ (K : Payments) (accounts lift : ℕ) where
   -- next sequences and pending bodies agree with the votes and the confirmed bodies
   pub record Turns (s : Shown Body) (voted confirmed : List Body) : Type 0 where
     pub next-is : (x : ℕ) → x < accounts → s .next-of x ≡ sumOf (isOf K x) confirmed
-    pub open-is : (x : ℕ) → x < accounts → (b : Body) → s .pending x ≡ some b → In b voted × (sender b ≡ x) × (sequence b ≡ sumOf (isOf K x) confirmed)
-    pub shut-is : (x : ℕ) → x < accounts → s .pending x ≡ none → (c : Body) → In c voted → sender c ≡ x → sequence c ≡ sumOf (isOf K x) confirmed → ⊥
+    pub open-is : (x : ℕ) → x < accounts → (b : Body) → s .pending x ≡ some b
+        → In b voted × (sender b ≡ x) × (sequence b ≡ sumOf (isOf K x) confirmed)
+    pub shut-is : (x : ℕ) → x < accounts → s .pending x ≡ none → (c : Body) → In c voted → sender c ≡ x
+        → sequence c ≡ sumOf (isOf K x) confirmed → ⊥
 
   -- a state follows a history: its turns; a balance is funding and credits less confirmed payments; the funding is the ledger's first orders
   pub record Follows (given : List Order) (s : Shown Body) (h : List (Event Body Order)) : Type 0 where
@@ -101,7 +103,8 @@ module _ (K : Payments) (accounts lift : ℕ) where
     pub owner : GaveAs given o (suc (s .last (account o)))
     pub turns : SameTurns s t
     pub balances : (y : ℕ) → y < accounts → t .balance y ≡ s .balance y + fundTo K y o
-    pub indexes : (y : ℕ) → y < accounts → ((t .last y ≡ suc (s .last y)) × GaveAs given o (suc (s .last y))) ⊎ ((t .last y ≡ s .last y) × (account o ≡ y → ⊥))
+    pub indexes : (y : ℕ) → y < accounts
+        → ((t .last y ≡ suc (s .last y)) × GaveAs given o (suc (s .last y))) ⊎ ((t .last y ≡ s .last y) × (account o ≡ y → ⊥))
 
   -- what a call changed, by its effect
   abbrev pub Changed : List Order → Shown Body → Shown Body → Effect Body Order → Type 0

@@ -30,7 +30,7 @@ use Rattle.ledger.specs.States as ledger
 use Rattle.ledger.specs.Answers.{paid}
 use Rattle.bookkeeping.specs.Theorems.{redeem-pays}
 use Rattle.bookkeeping.specs.Runs.{fund-never-16, redeem-never-16}
-use Rattle.safety.specs.Runs.{Call, InForce, Moment, answer}
+use Rattle.safety.specs.Runs.{rulesOf01, Call, InForce, Moment, answer}
 use Rattle.safety.specs.Demand3.{AtMostF, takes, brings, toLedger, funds, Honest, OnHonest, FairVotes, Good, Safe, Kept, Demand3}
 use Rattle.safety.proofs.Papers.{papers, world, certain-counts, counts-certain}
 use Rattle.safety.proofs.Certificates.{counting-seats, judged, signers-once, fair-votes, certified}
@@ -98,7 +98,7 @@ module _ (f : ℕ) (dishonest : ℕ → Bool) (few : AtMostF f dishonest) (w : M
 
   -- and the pot suffices
   paid-whole : (m verdicts : List ℕ) → Good f dishonest m verdicts → FairVotes f dishonest w m verdicts → payment (inside m) .kind ≡ 1 → (In (inside m) (w .paid) → ⊥)
-      → answer (record { machines = machine.base; ledger = ledger.base }) w (Call.redeem m verdicts) ≡ paid (payment (inside m) .recipient) (payment (inside m) .amount)
+      → answer rulesOf01 w (Call.redeem m verdicts) ≡ paid (payment (inside m) .recipient) (payment (inside m) .amount)
   paid-whole m verdicts good fair kind unpaid =
       let sum = redeemable papers (counting f) dishonest minority (world w) (h .sound) (inside m) (certain m verdicts good fair) (rw kind refl) unpaid in
       redeem-pays ledger.base (w .ledger) m verdicts (h .books .balanced .state) (rw (h .seats) good) kind (unlogged m verdicts good fair unpaid _ refl)
@@ -122,7 +122,7 @@ module _ (f : ℕ) (dishonest : ℕ → Bool) (few : AtMostF f dishonest) (w : M
       }
 
   -- no call answers 16
-  never-16 : (call : Call) → OnHonest f dishonest call → answer (record { machines = machine.base; ledger = ledger.base }) w call .number ≡ 16 → ⊥
+  never-16 : (call : Call) → OnHonest f dishonest call → answer rulesOf01 w call .number ≡ 16 → ⊥
   never-16 (Call.order k m verdicts) honest e = omega (arith, order-low (w .machines k) m verdicts (own k honest .limited))
   never-16 (Call.certificate k m verdicts) honest e = omega (arith, certificate-low (w .machines k) m verdicts (own k honest .limited))
   never-16 (Call.fundingOrder k m verdicts) honest e = omega (arith, funding-low (w .machines k) m verdicts (own k honest .limited))

@@ -25,7 +25,7 @@ use Rattle.invariants.specs.Theorems.{base-lays, order-limited, certificate-lim
 use Rattle.ledger.specs.States as ledger
 use Rattle.ledger.specs.Calls as on-ledger
 use Rattle.bookkeeping.specs.Keeping as bookkeeping
-use Rattle.safety.specs.Runs.{Call, Moment, acts, after}
+use Rattle.safety.specs.Runs.{rulesOf01, Call, Moment, acts, after}
 use Rattle.safety.proofs.Papers.{papers, world, shown}
 use Rattle.safety.proofs.Certificates.{Seats, Vouched, certified}
 use Rattle.safety.proofs.Showing.{Does, order-does, certificate-does, funding-does, order-seats, certificate-seats, funding-seats}
@@ -112,7 +112,7 @@ module _ (C : quorums.Committee) (c : wire.Committee) (weighed : Seats C c) (dis
       }
 
   -- every call keeps it
-  pub holds-call : (w : Moment) → Holds w → (call : Call) → Admitted w call → Holds (after (record { machines = machine.base; ledger = ledger.base }) w call)
+  pub holds-call : (w : Moment) → Holds w → (call : Call) → Admitted w call → Holds (after rulesOf01 w call)
   holds-call w h (Call.order k m verdicts) honest =
       let own = h .machines k (honest .0) (honest .1) in
       holds-acts w h k honest _ _ (order-does machine.base base-lays _ (w .given) (w .machines k) (own .limited .formed) (w .did k) m verdicts)

@@ -14,9 +14,9 @@ use Rattle.model.proofs.SumLaws.{sum-in}
 use Rattle.octets.specs.Octets.{same}
 use Rattle.wire.specs.Messages.{payment}
 use Rattle.wire.specs.declared.kinds.Payment.{Payment}
-use Rattle.safety.specs.Runs.{Call, Moment, start}
+use Rattle.safety.specs.Runs.{rulesOf01, Call, Moment, start}
 use Rattle.safety.specs.Demand3.{toLedger, Run, Safe}
-use Rattle.safety.specs.Example.{afterAll, rulesOf01, isThree, e1, e2, bodyOf, orderOf, certificateOf, good, allGood, reached}
+use Rattle.safety.specs.Example.{afterAll, isThree, e1, e2, bodyOf, orderOf, certificateOf, good, allGood, reached}
 use Rattle.safety.proofs.Checking.{checked, messages, machine-calls, ledger-calls}
 
 -- the same number for another payment: account 2 pays account 7 1,600

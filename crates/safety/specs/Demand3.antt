@@ -1,6 +1,10 @@
 -- Demand 3: nobody can overspend, and the ledger can always pay. Said of the definitions that the contracts of `machine` and `ledger` cite.
 -- What stands in quotation marks is the demand's own sentence. A body and a funding order are their bytes; `payment` and `funding` are what
 -- they say.
+-- Words from other pages. Of lists: `In b l` (b stands in l), `Distinct l` (nothing stands there twice), `sumOf g l` (g added up over l), `count p n` (how
+-- many of 0 .. n - 1 pass the test p). Of what a machine did: `votes`, `debits`, `credits` and `fundings`, the bodies voted for, confirmed and
+-- credited, and the funding orders taken. Of messages: `laid` (laid out as these fields), `inside m` (the body in m), `signersIn m` (the machines
+-- of its votes), `judgedBy` (the judge of certificates, with verdicts).
 use Prim.Native.Nat.{ℕ, _+_, _*_, _≤_, _<_}
 use mathlib.Core.Path.{_≡_}
 use mathlib.Core.Bool.{Bool, true, false, _&&_, not}
@@ -82,7 +86,8 @@ module _ (f : ℕ) (dishonest : ℕ → Bool) where
   -- "the rest, like the ledger, start fresh once with that f, each under its own number, and change only by their calls"
   pub data Run : Moment → Type 0 where
     starts-fresh : Run (start f)
-    changes-by-call : {w : Moment} → Run w → (rules : Rulebook) → InForce rules → (call : Call) → OnHonest call → Fair w call → Run (after rules w call)
+    changes-by-call : {w : Moment} → Run w → (rules : Rulebook) → InForce rules → (call : Call) → OnHonest call → Fair w call
+        → Run (after rules w call)
 
   -- "Call a payment certain once its honest votes plus the number of dishonest machines reach 2f + 1."
   abbrev pub Certain : Moment → List ℕ → Type 0
@@ -100,7 +105,8 @@ module _ (f : ℕ) (dishonest : ℕ → Bool) where
     pub only-certain : (b : List ℕ) → In b certains → Certain w b
     pub all-certain : (b : List ℕ) → Certain w b → In b certains
     -- "no account has two certain payments under one sequence number"
-    pub one-a-number : (b c : List ℕ) → Certain w b → Certain w c → payment b .sender .0 ≡ payment c .sender .0 → payment b .sequence .0 ≡ payment c .sequence .0 → b ≡ c
+    pub one-a-number : (b c : List ℕ) → Certain w b → Certain w c → payment b .sender .0 ≡ payment c .sender .0
+        → payment b .sequence .0 ≡ payment c .sequence .0 → b ≡ c
     -- "no account's certain payments exceed its funding plus the certain payments to it"
     pub covered : (x : ℕ) → sumOf (takes x) certains ≤ sumOf (funds x) (w .given) + sumOf (brings x) certains
     -- "the certain payments to the ledger never exceed all funding"
@@ -136,4 +142,5 @@ module _ (f : ℕ) (dishonest : ℕ → Bool) where
 
 -- the third demand, for every f of 01
 abbrev pub Demand3 : Type 0
-Demand3 = (f : ℕ) → f ≤ 5 → (dishonest : ℕ → Bool) → AtMostF f dishonest → (w : Moment) → Run f dishonest w → Safe f dishonest w × Kept f dishonest w
+Demand3 = (f : ℕ) → f ≤ 5 → (dishonest : ℕ → Bool) → AtMostF f dishonest → (w : Moment) → Run f dishonest w
+    → Safe f dishonest w × Kept f dishonest w

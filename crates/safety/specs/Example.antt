@@ -13,9 +13,8 @@ use Rattle.states.specs.Outcomes.{done}
 use Rattle.records.specs.States as machine
 use Rattle.records.specs.Answers.{voteNew, voteRepeated, confirmed, already}
 use Rattle.records.specs.Calls.{account}
-use Rattle.ledger.specs.States as ledger
 use Rattle.ledger.specs.Answers.{funded, paid}
-use Rattle.safety.specs.Runs.{Call, Rulebook, Moment, start, answer, after}
+use Rattle.safety.specs.Runs.{Call, Rulebook, rulesOf01, Moment, start, answer, after}
 
 -- the moment after calls, one after another
 abbrev pub afterAll : Rulebook → Moment → List Call → Moment
@@ -26,10 +25,6 @@ afterAll rules w (call ∷ calls) = afterAll rules (after rules w call) calls
 abbrev pub answers : Rulebook → Moment → List Call → List Said
 answers rules w [] = []
 answers rules w (call ∷ calls) = answer rules w call ∷ answers rules (after rules w call) calls
-
--- the rules of 01
-abbrev pub rulesOf01 : Rulebook
-rulesOf01 = record { machines = machine.base; ledger = ledger.base }
 
 -- the dishonest machine
 abbrev pub isThree : ℕ → Bool

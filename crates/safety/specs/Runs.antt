@@ -23,14 +23,17 @@ pub data Call : Type 0 where
   fund : List ℕ → ℕ → ℕ → Call
   redeem : List ℕ → List ℕ → Call
 
--- the rules that a call is made by
+-- the rules that a call is made by, and those of 01
 pub record Rulebook : Type 0 where
   pub machines : machine.Rules
   pub ledger : ledger.Rules
 
+abbrev pub rulesOf01 : Rulebook
+rulesOf01 = record { machines = machine.base; ledger = ledger.base }
+
 -- the rules that were ever in force: those of 01. Rules that come later are added here, and earlier calls go on counting by theirs
 pub data InForce : Rulebook → Type 0 where
-  of01 : InForce (record { machines = machine.base; ledger = ledger.base })
+  of01 : InForce rulesOf01
 
 -- a moment: the bytes of each machine and of the ledger; and what was done up to then, read off the answers, newest first: by each machine,
 -- the funding orders that the ledger wrote, and the bodies that it paid
