@@ -5,6 +5,3 @@ pub mod Books
 pub mod Holding
 pub mod Running
 pub mod Demand3
-pub mod Checking
-pub mod Example
-pub mod Needed

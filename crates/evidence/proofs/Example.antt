@@ -2,11 +2,11 @@
 use mathlib.Core.Path.{_≡_, refl}
 use lib.Dec.{lit≤}
 use lib.IntN.{pos, negsuc}
 use Rattle.safety.specs.Runs.{rulesOf01, start}
 use Rattle.safety.specs.Demand3.{Run, Certain, Safe, Kept}
-use Rattle.safety.specs.Example.{answers, isThree, e1, payout, bodyOf, morning, day, dayAnswers, reached, balance}
+use Rattle.evidence.specs.Example.{answers, isThree, e1, payout, bodyOf, morning, day, dayAnswers, reached, balance}
 use Rattle.safety.proofs.Demand3.{demand3}
-use Rattle.safety.proofs.Checking.{checked, messages, machine-calls, ledger-calls}
+use Rattle.evidence.proofs.Checking.{checked, messages, machine-calls, ledger-calls}
 
 -- the day is a run
 pub day-runs : Run 1 isThree (reached day)

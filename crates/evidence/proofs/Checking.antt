@@ -21,10 +21,10 @@ use Rattle.records.specs.States as machine
 use Rattle.records.specs.Calls as on-machine
 use Rattle.ledger.specs.States as ledger
 use Rattle.ledger.specs.Calls as on-ledger
 use Rattle.safety.specs.Runs.{rulesOf01, Call, InForce, Moment, after}
 use Rattle.safety.specs.Demand3.{Honest, OnHonest, Fair, Run}
-use Rattle.safety.specs.Example.{afterAll}
+use Rattle.evidence.specs.Example.{afterAll}
 use Rattle.safety.proofs.Papers.{same-is, is-same}
 
 -- the premises of a run as tests
 module _ (f : ℕ) (dishonest : ℕ → Bool) where

@@ -1,0 +1,3 @@
+pub mod Checking
+pub mod Example
+pub mod Needed

@@ -1,0 +1,1 @@
+// No code: specs/ has a day of calls, and proofs/ that it is a run and that demand 3 says no more than is needed.
