@@ -1,5 +1,5 @@
--- No premise of demand 3 can be dropped, a quorum cannot be smaller, and no rule of 01 that it rests on can be left out: for each, what breaks a
--- promise without it. Assumes nothing.
+-- No premise of demand 3 can be dropped, a quorum cannot be smaller, and refusals 4 to 7 and 9 to 14 cannot be left out: for each, what breaks a promise
+-- without it. Assumes nothing.
 use Prim.Native.Nat.{ℕ, _+_, _*_, _≤_}
 use mathlib.Core.Path.{_≡_, refl, ap}
 use mathlib.Core.Bool.{Bool, false, not, _&&_}
@@ -110,7 +110,7 @@ pub another-pending : Safe 1 nobody (allVoteAnyway (allVote before e1) other) �
 unfolding messages machine-calls ledger-calls
 another-pending safe = different (safe .one-a-number (bodyOf e1) (bodyOf other) (lit≤ tt) (lit≤ tt) refl refl)
 
--- 10: the sequence is not the next, since its payment was confirmed
+-- 10: the order's sequence is not the next, since its payment was confirmed
 abbrev settled : Moment
 settled =
     afterAll rulesOf01 (allVote before e1)
@@ -160,10 +160,15 @@ credited-once safe = let z : 3_000 ≤ 2_000 = within creditedTwice (bodyOf (mor
 abbrev paysAnyway : Moment → Payment → Moment
 paysAnyway w p = record { machines = w .machines; ledger = afterPay ledger.base (w .ledger) p; did = w .did; given = w .given; paid = bodyOf p ∷ w .paid }
 
--- 6 and 7: fewer than 2f + 1 different machines voted
+-- 4 to 7: fewer than 2f + 1 different machines of the committee voted
 pub too-few-votes : Safe 1 nobody (paysAnyway (afterAll rulesOf01 before (Call.order 0 (orderOf cash) good ∷ [])) cash) → ⊥
 unfolding messages machine-calls ledger-calls
 too-few-votes safe = let z : 3 ≤ 1 = safe .paid-certain (bodyOf cash) (inl refl) .0 in omega arith
+
+-- 13: the recipient is no ledger account
+pub not-to-ledger : Safe 1 nobody (paysAnyway (allVote before e1) e1) → ⊥
+unfolding messages machine-calls ledger-calls
+not-to-ledger safe = let z : _≡_ {A = ℕ} 0 1 = safe .paid-certain (bodyOf e1) (inl refl) .1 in omega arith
 
 -- 14: this sender and sequence are in the log
 pub already-redeemed : Safe 1 nobody (paysAnyway (paysAnyway (allVote before cash) cash) cash) → ⊥

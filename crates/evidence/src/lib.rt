@@ -1,1 +1,1 @@
-// No code: specs/ has a day of calls, and proofs/ that it is a run and that demand 3 says no more than is needed.
+// No code: specs/ has a day of calls, and proofs/ that it is a run and that demand 3 asks for nothing in vain.
