@@ -1,24 +1,29 @@
 -- The laws of a machine's calls, for any messages, verdicts and states. Assumes nothing.
-use Prim.Native.Nat.{ℕ, _*_, _≤_, _<_}
+use Prim.Native.Nat.{ℕ, _+_, _*_, _≤_, _<_}
 use mathlib.Core.Path.{_≡_, refl, _∙_, ap}
 use mathlib.Core.List.{List}
 use native.Mathlib.Omega.{arith}
 use lib.ListN.{length, getD}
-use lib.Dec.{lit≤}
+use lib.Dec.{leb, eqb, lit≤}
+use borrow.Author.Tests.{le-leb, le-ltb, eq-eqb}
 use Rattle.octets.specs.Octets.{two, bytes}
 use Rattle.octets.proofs.Laws.{length-put, length-bytes, getD-put-out}
 use Rattle.wire.specs.Messages.{payment, inside, funding}
-use Rattle.wire.specs.Votes.{committee}
+use Rattle.wire.specs.Votes.{committee, signersIn}
+use Rattle.wire.specs.Readers.{judgedBy}
 use Rattle.states.specs.Headers.{withIndex, lastIndex}
+use Rattle.states.specs.Outcomes.{Outcome}
 use Rattle.records.specs.declared.record.Record.{Record}
+use Rattle.records.specs.Balances.{highest, signed}
 use Rattle.records.specs.Records.{freshRecord}
 use Rattle.records.specs.States.{Rules, base, recordOf, freshState}
-use Rattle.records.specs.Calls.{fresh, order, certificate, fundingOrder, account}
+use Rattle.records.specs.Answers.{confirmed}
+use Rattle.records.specs.Calls.{fresh, order, toItself, pay, settleOn, settle, certificate, fundingOrder, account}
 use Rattle.invariants.specs.RecordLaws.{holding-formed, paid-formed, credited-formed, fresh-records, record-stays}
-use Rattle.invariants.specs.Outcomes.{afterPaid, Settled, fresh-comes, order-comes, certificate-comes, funding-comes}
+use Rattle.invariants.specs.Outcomes.{afterPaid, Settled, certificate-body, body-range, cond-case, need-holds, fresh-comes, order-comes, certificate-comes, funding-comes}
 use Rattle.invariants.specs.Meaning.{LeavesRefused, InRecord, WellFormed, Lays, Limited, Reached}
 use Rattle.invariants.specs.Keeping.{faults-stay, holding-size, paid-size, credited-size, record-leaves, header-stays, fresh-state, formed-of, withRecord-keeps, withIndex-keeps}
-use Rattle.invariants.specs.Bounds.{changed-holding, changed-credited, follows-itself, follows-index, follows-record, limited-still, fresh-record, fresh-index, follows-paid, raised, limited-more, order-low, certificate-low, funding-low, account-low}
+use Rattle.invariants.specs.Bounds.{changed-holding, changed-credited, follows-itself, follows-index, follows-record, limited-still, fresh-record, fresh-index, follows-paid, raised, limited-more, enough, room, to-account, recipient-formed, order-low, certificate-low, funding-low, account-low}
 
 -- a refusal leaves every byte
 pub fresh-refused : (rules : Rules) (s : List ℕ) (f own : ℕ) → LeavesRefused s (fresh rules s f own)
@@ -179,3 +184,25 @@ funding-never-16 s m verdicts r e = omega (arith, funding-low s m verdicts (reac
 
 pub account-never-16 : (s : List ℕ) (a : ℕ) → Reached s → account base s a .answer .number ≡ 16 → ⊥
 account-never-16 s a r e = omega (arith, account-low s a (reached-limited s r))
+
+-- a good certificate in its turn is confirmed, however low the balance
+pub certificate-counts : (s m verdicts : List ℕ) → Limited base s → judgedBy (base .committee s) m verdicts .number ≡ 0
+    → (let p = payment (inside m) in p .sequence .0 ≡ recordOf base s (p .sender .0) .next .0
+    → certificate base s m verdicts .answer ≡ confirmed (length (signersIn m)))
+unfolding certificate settle settleOn pay
+certificate-counts s m verdicts limited good turn =
+    let p = payment (inside m) in
+    let from = recordOf base s (p .sender .0) in
+    let to = recordOf base s (p .recipient) in
+    let P : Outcome → Type 0 = λ o. o .answer ≡ confirmed (length (signersIn m)) in
+    let range = body-range (inside m) (certificate-body (base .committee s) m verdicts good) in
+    rw (limited .formed .state, good, limited .formed .records (p .sender .0) (range .sender), recipient-formed base s p (limited .formed) range, le-ltb (p .sequence .0) (from .next .0) (omega arith), eq-eqb _ _ turn)
+    (cond-case P (toItself p) _ _ (λ _. refl) (λ _.
+    need-holds P (leb (p .amount) (from .balance)) _ _ (le-leb _ _ (enough base s p limited range turn))
+    (cond-case P (eqb (p .kind) 1) _ _ (λ _. refl) (λ account.
+    need-holds P (leb (to .balance + p .amount) highest) _ _ (le-leb _ _ (room base s (p .recipient) (p .amount) limited (to-account p range account) (range .amount))) refl))))
+
+-- what reading an account shows of its balance
+pub account-balance : (s : List ℕ) (x : ℕ) → WellFormed base s → x ≤ 63 → account base s x .balance ≡ signed (recordOf base s x .balance)
+unfolding account
+account-balance s x formed h = rw (formed .state, le-leb x 63 h, formed .records x h)

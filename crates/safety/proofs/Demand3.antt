@@ -1,41 +1,33 @@
 -- Demand 3 holds. Assumes nothing.
-use Prim.Native.Nat.{ℕ, _+_, _≤_}
+use Prim.Native.Nat.{ℕ, _+_}
 use mathlib.Core.Path.{_≡_, refl, ap, _∙_}
 use mathlib.Core.Bool.{Bool, true, false}
 use mathlib.Core.List.{List}
 use native.Mathlib.Omega.{arith}
-use lib.ListN.{length}
-use lib.Dec.{leb, ltb, eqb}
+use lib.Dec.{ltb}
 use lib.IntN.{pos, negsuc, subℕ}
-use borrow.Author.Tests.{ltb-true, ltb-false, lt-ltb, le-ltb, le-leb, eq-eqb}
+use borrow.Author.Tests.{ltb-true, ltb-false, lt-ltb, le-ltb}
 use Rattle.model.specs.Lists.{In, sumOf}
 use Rattle.model.specs.Quorums.{counting, Few}
 use Rattle.model.specs.Histories.{debits, credits, fundings}
-use Rattle.model.specs.Worlds as model
 use Rattle.model.proofs.SumLaws.{sum-mono}
 use Rattle.model.proofs.QuorumLaws.{count-few}
-use Rattle.model.proofs.Safety.{unique, account-safe, solvent, listed, redeemable}
+use Rattle.model.proofs.Safety.{unique, account-safe, solvent, listed}
 use Rattle.wire.specs.Messages.{payment, inside}
-use Rattle.wire.specs.Readers.{judgedBy}
-use Rattle.wire.specs.Votes.{committee, signersIn}
-use Rattle.states.specs.Outcomes.{Outcome}
-use Rattle.records.specs.Balances.{nought, highest}
+use Rattle.wire.specs.Votes.{committee}
+use Rattle.records.specs.Balances.{nought}
 use Rattle.records.specs.States as machine
-use Rattle.records.specs.Answers.{confirmed}
-use Rattle.records.specs.Calls as on-machine
-use Rattle.invariants.specs.Outcomes.{certificate-body, body-range, cond-case, need-holds}
-use Rattle.invariants.specs.Meaning.{WellFormed, Limited}
-use Rattle.invariants.specs.Bounds.{enough, room, to-account, recipient-formed, order-low, certificate-low, funding-low}
-use Rattle.ledger.specs.States as ledger
+use Rattle.invariants.specs.Theorems.{certificate-counts, account-balance}
+use Rattle.invariants.specs.Bounds.{order-low, certificate-low, funding-low}
 use Rattle.ledger.specs.Answers.{paid}
-use Rattle.bookkeeping.specs.Theorems.{redeem-pays}
 use Rattle.bookkeeping.specs.Runs.{fund-never-16, redeem-never-16}
 use Rattle.safety.specs.Runs.{rulesOf01, Call, InForce, Moment, answer}
 use Rattle.safety.specs.Demand3.{AtMostF, takes, brings, toLedger, funds, Honest, OnHonest, FairVotes, Good, Safe, Kept, Demand3}
 use Rattle.safety.proofs.Papers.{papers, world, certain-counts, counts-certain}
-use Rattle.safety.proofs.Certificates.{counting-seats, judged, signers-once, fair-votes, certified}
+use Rattle.safety.proofs.Certificates.{counting-seats, judged, signers-once, fair-votes}
 use Rattle.safety.proofs.Books.{amountIn}
 use Rattle.safety.proofs.Holding.{Follower}
+use Rattle.safety.proofs.Paying.{pays-whole}
 use Rattle.safety.proofs.Running.{Holds, member, run-holds}
 
 -- two differences of equal distance are equal
@@ -50,59 +42,20 @@ same-difference a b c d e = go (ltb a b) refl
         let l = ltb-false a b h in
         rw (h, le-ltb c d (omega arith)) (ap pos (omega arith))
 
--- what reading an account shows of its balance
-shown-balance : (s : List ℕ) (x : ℕ) → WellFormed machine.base s → x ≤ 63 → on-machine.account machine.base s x .balance ≡ subℕ (machine.recordOf machine.base s x .balance) nought
-unfolding on-machine.account
-shown-balance s x formed h = rw (formed .state, le-leb x 63 h, formed .records x h)
-
--- a good certificate in its turn is confirmed, however low the balance
-in-turn : (s m verdicts : List ℕ) → Limited machine.base s → judgedBy (machine.base .committee s) m verdicts .number ≡ 0
-    → (let p = payment (inside m) in p .sequence .0 ≡ machine.recordOf machine.base s (p .sender .0) .next .0
-    → on-machine.certificate machine.base s m verdicts .answer ≡ confirmed (length (signersIn m)))
-unfolding on-machine.certificate on-machine.settle on-machine.settleOn on-machine.pay
-in-turn s m verdicts limited good turn =
-    let p = payment (inside m) in
-    let from = machine.recordOf machine.base s (p .sender .0) in
-    let to = machine.recordOf machine.base s (p .recipient) in
-    let P : Outcome → Type 0 = λ o. o .answer ≡ confirmed (length (signersIn m)) in
-    let range = body-range (inside m) (certificate-body (machine.base .committee s) m verdicts good) in
-    rw (limited .formed .state, good, limited .formed .records (p .sender .0) (range .sender), recipient-formed machine.base s p (limited .formed) range, le-ltb (p .sequence .0) (from .next .0) (omega arith), eq-eqb _ _ turn)
-    (cond-case P (on-machine.toItself p) _ _ (λ _. refl) (λ _.
-    need-holds P (leb (p .amount) (from .balance)) _ _ (le-leb _ _ (enough machine.base s p limited range turn))
-    (cond-case P (eqb (p .kind) 1) _ _ (λ _. refl) (λ account.
-    need-holds P (leb (to .balance + p .amount) highest) _ _ (le-leb _ _ (room machine.base s (p .recipient) (p .amount) limited (to-account p range account) (range .amount))) refl))))
-
 module _ (f : ℕ) (dishonest : ℕ → Bool) (few : AtMostF f dishonest) (w : Moment) (h : Holds f dishonest w) where
   -- the dishonest are few
   minority : Few (counting f) dishonest
   minority = count-few f dishonest (omega (arith, few))
 
-  -- a good certificate with fair verdicts makes its body certain
-  certain : (m verdicts : List ℕ) → Good f dishonest m verdicts → FairVotes f dishonest w m verdicts → model.Certain papers (counting f) dishonest (world w) (inside m)
-  certain m verdicts good fair = certified (counting f) (committee f) (counting-seats f) dishonest w m verdicts good (fair-votes f dishonest w m verdicts fair)
-
   -- an honest machine's bytes
   own : (k : ℕ) → Honest f dishonest k → Follower (committee f) (w .given) (w .machines k) (w .did k)
   own k honest = h .machines k (member f dishonest k (honest .0)) (honest .1)
 
-  -- a good certificate to the ledger that was not paid before: its bit is clear, since another body under its number would be certain too
-  unlogged : (m verdicts : List ℕ) → Good f dishonest m verdicts → FairVotes f dishonest w m verdicts → (In (inside m) (w .paid) → ⊥)
-      → (t : Bool) → ledger.isRedeemed ledger.base (w .ledger) (payment (inside m) .sender .0) (payment (inside m) .sequence .0) ≡ t → t ≡ false
-  unlogged m verdicts good fair unpaid true e =
-      let range = body-range (inside m) (certificate-body (committee f) m verdicts good) in
-      let b = h .books .log-only _ _ (range .sequence) e in
-      let equal : b .0 ≡ inside m =
-      unique papers (counting f) dishonest minority (world w) (h .sound) (b .0) (inside m) (h .sound .paid-certain (b .0) (b .1)) (certain m verdicts good fair) (b .2) (b .3) in
-      absurd (unpaid (rw equal at (b .1)))
-  unlogged m verdicts good fair unpaid false e = refl
-
-  -- and the pot suffices
+  -- a good certificate to the ledger, not yet paid, is paid whole
   paid-whole : (m verdicts : List ℕ) → Good f dishonest m verdicts → FairVotes f dishonest w m verdicts → payment (inside m) .kind ≡ 1 → (In (inside m) (w .paid) → ⊥)
       → answer rulesOf01 w (Call.redeem m verdicts) ≡ paid (payment (inside m) .recipient) (payment (inside m) .amount)
   paid-whole m verdicts good fair kind unpaid =
-      let sum = redeemable papers (counting f) dishonest minority (world w) (h .sound) (inside m) (certain m verdicts good fair) (rw kind refl) unpaid in
-      redeem-pays ledger.base (w .ledger) m verdicts (h .books .balanced .state) (rw (h .seats) good) kind (unlogged m verdicts good fair unpaid _ refl)
-      (omega (arith, sum, h .books .balanced .pot))
+      pays-whole (counting f) (committee f) (counting-seats f) dishonest minority w h m verdicts good (fair-votes f dishonest w m verdicts fair) kind unpaid
 
   safe : Safe f dishonest w
   safe =
@@ -138,12 +91,12 @@ module _ (f : ℕ) (dishonest : ℕ → Bool) (few : AtMostF f dishonest) (w : M
     machines-formed = λ k honest. own k honest .limited .formed;
     ledger-formed = h .books .balanced .state;
     unlimited = λ rules. elim [ InForce.of01 ↦ never-16 ];
-    counts = λ rules. elim [ InForce.of01 ↦ λ k honest m verdicts good turn. in-turn (w .machines k) m verdicts (own k honest .limited) (rw (own k honest .seats) good) turn ];
+    counts = λ rules. elim [ InForce.of01 ↦ λ k honest m verdicts good turn. certificate-counts (w .machines k) m verdicts (own k honest .limited) (rw (own k honest .seats) good) turn ];
     balances = λ k honest x l.
         let bytes = own k honest in
         let s = w .machines k in
         let money = bytes .follows .money x (omega arith) in
-        shown-balance s x (bytes .limited .formed) l
+        account-balance s x (bytes .limited .formed) l
         ∙ same-difference (machine.recordOf machine.base s x .balance) nought (sumOf (funds x) (fundings (w .did k)) + sumOf (brings x) (credits (w .did k))) (sumOf (takes x) (debits (w .did k))) (omega arith);
     nexts = λ k honest x l. own k honest .follows .turns .next-is x (omega arith);
     indexes = λ k honest. own k honest .index;
