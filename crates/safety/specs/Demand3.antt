@@ -140,7 +140,7 @@ module _ (f : ℕ) (dishonest : ℕ → Bool) where
     pub ledger-index : lastIndex (w .ledger) ≡ length (w .given)
     pub pot : ledger.pot (w .ledger) + sumOf toLedger (w .paid) ≡ sumOf amountOf (w .given)
 
--- the third demand, for every f of 01
+-- the third demand, for every f of 01; `demand3` in proofs/Demand3.antt proves it
 abbrev pub Demand3 : Type 0
 Demand3 = (f : ℕ) → f ≤ 5 → (dishonest : ℕ → Bool) → AtMostF f dishonest → (w : Moment) → Run f dishonest w
     → Safe f dishonest w × Kept f dishonest w
