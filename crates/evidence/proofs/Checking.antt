@@ -12,7 +12,7 @@ use Rattle.model.specs.Histories.{votes}
 use Rattle.model.proofs.SumLaws.{is-in}
 use Rattle.octets.specs.Octets.{number, bytes, put, same, allZero}
 use Rattle.wire.specs.Fields as fields
-use Rattle.wire.specs.Messages.{payment, isPayment, bodyBytes, inside, orderBytes, funding, isFunding, fundingBytes}
+use Rattle.wire.specs.Messages.{certificateFields, fundingFields, payment, isPayment, bodyBytes, inside, orderBytes, funding, isFunding, fundingBytes}
 use Rattle.wire.specs.Votes.{signers, signersIn, known, risingFrom, good, voteFields, certificateBytes}
 use Rattle.wire.specs.Readers.{readPayment, readFunding, judgedBy}
 use Rattle.wire.proofs.FieldLaws.{both}
@@ -21,8 +21,8 @@ use Rattle.records.specs.States as machine
 use Rattle.records.specs.Calls as on-machine
 use Rattle.ledger.specs.States as ledger
 use Rattle.ledger.specs.Calls as on-ledger
-use Rattle.safety.specs.Runs.{rulesOf01, Call, InForce, Moment, after}
-use Rattle.safety.specs.Demand3.{Honest, OnHonest, Fair, Run}
+use Rattle.safety.specs.Runs.{Call, Moment, after}
+use Rattle.safety.specs.Demand3.{Honest, OnHonest, FairVotes, FairFunding, Fair, Run}
 use Rattle.evidence.specs.Example.{afterAll}
 use Rattle.safety.proofs.Papers.{same-is, is-same}
 
@@ -42,18 +42,26 @@ module _ (f : ℕ) (dishonest : ℕ → Bool) where
   areGiven w body (k ∷ ks) [] = true
   areGiven w body (k ∷ ks) (v ∷ vs) = isGiven w body k v && areGiven w body ks vs
 
+  -- the verdicts on a certificate's votes are fair, and the one on a funding order
+  abbrev pub areFairVotes : Moment → List ℕ → List ℕ → Bool
+  areFairVotes w m verdicts =
+      cond (fields.laid m certificateFields && eqb (length verdicts) (length (signersIn m))) (areGiven w (inside m) (signersIn m) verdicts) true
+
+  abbrev pub isFairFunding : Moment → List ℕ → List ℕ → Bool
+  isFairFunding w m verdicts = cond (fields.laid m fundingFields && same verdicts (1 ∷ [])) (isIn same m (w .given)) true
+
   -- a call is on an honest machine, and its verdicts are fair
   abbrev pub isFair : Moment → Call → Bool
   isFair w (Call.order k m verdicts) = isHonest k
-  isFair w (Call.certificate k m verdicts) = isHonest k && areGiven w (inside m) (signersIn m) verdicts
-  isFair w (Call.fundingOrder k m verdicts) = isHonest k && cond (eqb (getD verdicts 0 0) 1) (isIn same m (w .given)) true
+  isFair w (Call.certificate k m verdicts) = isHonest k && areFairVotes w m verdicts
+  isFair w (Call.fundingOrder k m verdicts) = isHonest k && isFairFunding w m verdicts
   isFair w (Call.fund out account amount) = true
-  isFair w (Call.redeem m verdicts) = areGiven w (inside m) (signersIn m) verdicts
+  isFair w (Call.redeem m verdicts) = areFairVotes w m verdicts
 
   -- and so are calls one after another
   abbrev pub areFair : Moment → List Call → Bool
   areFair w [] = true
-  areFair w (call ∷ calls) = isFair w call && areFair (after rulesOf01 w call) calls
+  areFair w (call ∷ calls) = isFair w call && areFair (after w call) calls
 
   -- the test for an honest machine says that it is one
   test-honest : (k : ℕ) → isHonest k ≡ true → Honest f dishonest k
@@ -69,25 +77,33 @@ module _ (f : ℕ) (dishonest : ℕ → Bool) where
       (rw (eq-eqb v 1 e, le-leb k (3 * f) (honest .0), honest .1) at (both (isGiven w body k v) (areGiven w body ks vs) h .0))
   given-votes w body (k ∷ ks) (v ∷ vs) h (suc i) l e honest = given-votes w body ks vs (both (isGiven w body k v) (areGiven w body ks vs) h .1) i (omega arith) e honest
 
+  -- the tests for verdicts say that they are fair
+  fair-votes : (w : Moment) (m verdicts : List ℕ) → areFairVotes w m verdicts ≡ true → FairVotes f dishonest w m verdicts
+  fair-votes w m verdicts h l n i k = given-votes w (inside m) (signersIn m) verdicts (rw (l, eq-eqb _ _ n) at h) i (omega arith)
+
+  fair-funding : (w : Moment) (m verdicts : List ℕ) → isFairFunding w m verdicts ≡ true → FairFunding f dishonest w m verdicts
+  unfolding same
+  fair-funding w m verdicts h l e = is-in same same-is is-same m (w .given) (rw (l, e) at h)
+
   -- the test for a call says what a run asks
-  fair-call : (w : Moment) (call : Call) → isFair w call ≡ true → OnHonest f dishonest call × Fair f dishonest w call
+  pub fair-call : (w : Moment) (call : Call) → isFair w call ≡ true → OnHonest f dishonest call × Fair f dishonest w call
   fair-call w (Call.order k m verdicts) h = (test-honest k h, tt)
   fair-call w (Call.certificate k m verdicts) h =
-      let t = both (isHonest k) (areGiven w (inside m) (signersIn m) verdicts) h in
-      (test-honest k (t .0), λ _. given-votes w (inside m) (signersIn m) verdicts (t .1))
+      let t = both (isHonest k) (areFairVotes w m verdicts) h in
+      (test-honest k (t .0), fair-votes w m verdicts (t .1))
   fair-call w (Call.fundingOrder k m verdicts) h =
-      let t = both (isHonest k) _ h in
-      (test-honest k (t .0), λ _ v. is-in same same-is is-same m (w .given) (rw (eq-eqb (getD verdicts 0 0) 1 v) at (t .1)))
+      let t = both (isHonest k) (isFairFunding w m verdicts) h in
+      (test-honest k (t .0), fair-funding w m verdicts (t .1))
   fair-call w (Call.fund out account amount) h = (tt, tt)
-  fair-call w (Call.redeem m verdicts) h = (tt, λ _. given-votes w (inside m) (signersIn m) verdicts h)
+  fair-call w (Call.redeem m verdicts) h = (tt, fair-votes w m verdicts h)
 
   -- calls that pass the test extend a run
-  pub checked : (w : Moment) (calls : List Call) → Run f dishonest w → areFair w calls ≡ true → Run f dishonest (afterAll rulesOf01 w calls)
+  pub checked : (w : Moment) (calls : List Call) → Run f dishonest w → areFair w calls ≡ true → Run f dishonest (afterAll w calls)
   checked w [] run h = run
   checked w (call ∷ calls) run h =
-      let t = both (isFair w call) (areFair (after rulesOf01 w call) calls) h in
+      let t = both (isFair w call) (areFair (after w call) calls) h in
       let c = fair-call w call (t .0) in
-      checked (after rulesOf01 w call) calls (Run.changes-by-call run rulesOf01 InForce.of01 call (c .0) (c .1)) (t .1)
+      checked (after w call) calls (Run.changes-by-call run call (c .0) (c .1)) (t .1)
 
 -- for proofs by computing: to unfold one of these three is to unfold all that its line names. Bytes and messages
 unfoldable pub messages : Unit {0}

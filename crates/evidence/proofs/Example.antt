@@ -2,7 +2,7 @@
 use mathlib.Core.Path.{_≡_, refl}
 use lib.Dec.{lit≤}
 use lib.IntN.{pos, negsuc}
-use Rattle.safety.specs.Runs.{rulesOf01, start}
+use Rattle.safety.specs.Runs.{start}
 use Rattle.safety.specs.Demand3.{Run, Certain, Safe, Kept}
 use Rattle.evidence.specs.Example.{answers, isThree, e1, payout, bodyOf, morning, day, dayAnswers, reached, balance}
 use Rattle.safety.proofs.Demand3.{demand3}
@@ -18,7 +18,7 @@ pub day-safe : Safe 1 isThree (reached day) × Kept 1 isThree (reached day)
 day-safe = demand3 1 (lit≤ tt) isThree (lit≤ tt) (reached day) day-runs
 
 -- its calls get the answers that stand beside them
-pub day-answers : answers rulesOf01 (start 1) day ≡ dayAnswers
+pub day-answers : answers (start 1) day ≡ dayAnswers
 unfolding messages machine-calls ledger-calls
 day-answers = refl
 

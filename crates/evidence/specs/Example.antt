@@ -1,4 +1,4 @@
--- A day with f = 1 and machine 3 dishonest: the messages, the calls in their order, and what each answers. It is a run as demand 3 speaks of.
+-- A day with f = 1 and machine 3 dishonest: the messages, the calls in their order, and what each answers. It is a run such as demand 3 speaks of.
 use Prim.Native.Nat.{ℕ}
 use mathlib.Core.Bool.{Bool}
 use mathlib.Core.List.{List, [], _∷_, _++_}
@@ -14,17 +14,17 @@ use Rattle.records.specs.States as machine
 use Rattle.records.specs.Answers.{voteNew, voteRepeated, confirmed, already}
 use Rattle.records.specs.Calls.{account}
 use Rattle.ledger.specs.Answers.{funded, paid}
-use Rattle.safety.specs.Runs.{Call, Rulebook, rulesOf01, Moment, start, answer, after}
+use Rattle.safety.specs.Runs.{Call, Moment, start, answer, after}
 
 -- the moment after calls, one after another
-abbrev pub afterAll : Rulebook → Moment → List Call → Moment
-afterAll rules w [] = w
-afterAll rules w (call ∷ calls) = afterAll rules (after rules w call) calls
+abbrev pub afterAll : Moment → List Call → Moment
+afterAll w [] = w
+afterAll w (call ∷ calls) = afterAll (after w call) calls
 
 -- what each of them answers
-abbrev pub answers : Rulebook → Moment → List Call → List Said
-answers rules w [] = []
-answers rules w (call ∷ calls) = answer rules w call ∷ answers rules (after rules w call) calls
+abbrev pub answers : Moment → List Call → List Said
+answers w [] = []
+answers w (call ∷ calls) = answer w call ∷ answers (after w call) calls
 
 -- the dishonest machine
 abbrev pub isThree : ℕ → Bool
@@ -64,7 +64,7 @@ abbrev pub allGood : List ℕ
 allGood = 1 ∷ 1 ∷ 1 ∷ []
 
 -- in the morning the ledger funds account 2, machines 0 and 1 take the funding order and vote for E1, machine 0 twice.
--- Its certificate comes to machine 2 before the funding order
+-- E1's certificate comes to machine 2 before the funding order
 abbrev pub morning : List Call
 morning =
     Call.fund (replicate 16 0) 2 2_000
@@ -113,8 +113,8 @@ dayAnswers = morningAnswers ++ noonAnswers ++ eveningAnswers
 
 -- the moment that these calls lead to
 abbrev pub reached : List Call → Moment
-reached calls = afterAll rulesOf01 (start 1) calls
+reached calls = afterAll (start 1) calls
 
 -- the balance of an account that a machine shows
 abbrev pub balance : Moment → ℕ → ℕ → ℤ
-balance w k x = account machine.base (w .machines k) x .balance
+balance w k x = account (w .rules k) (w .machines k) x .balance

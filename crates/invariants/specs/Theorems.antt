@@ -186,23 +186,23 @@ pub account-never-16 : (s : List ℕ) (a : ℕ) → Reached s → account base s
 account-never-16 s a r e = omega (arith, account-low s a (reached-limited s r))
 
 -- a good certificate in its turn is confirmed, however low the balance
-pub certificate-counts : (s m verdicts : List ℕ) → Limited base s → judgedBy (base .committee s) m verdicts .number ≡ 0
-    → (let p = payment (inside m) in p .sequence .0 ≡ recordOf base s (p .sender .0) .next .0
-    → certificate base s m verdicts .answer ≡ confirmed (length (signersIn m)))
+pub certificate-counts : (rules : Rules) (s m verdicts : List ℕ) → Limited rules s → judgedBy (rules .committee s) m verdicts .number ≡ 0
+    → (let p = payment (inside m) in p .sequence .0 ≡ recordOf rules s (p .sender .0) .next .0
+    → certificate rules s m verdicts .answer ≡ confirmed (length (signersIn m)))
 unfolding certificate settle settleOn pay
-certificate-counts s m verdicts limited good turn =
+certificate-counts rules s m verdicts limited good turn =
     let p = payment (inside m) in
-    let from = recordOf base s (p .sender .0) in
-    let to = recordOf base s (p .recipient) in
+    let from = recordOf rules s (p .sender .0) in
+    let to = recordOf rules s (p .recipient) in
     let P : Outcome → Type 0 = λ o. o .answer ≡ confirmed (length (signersIn m)) in
-    let range = body-range (inside m) (certificate-body (base .committee s) m verdicts good) in
-    rw (limited .formed .state, good, limited .formed .records (p .sender .0) (range .sender), recipient-formed base s p (limited .formed) range, le-ltb (p .sequence .0) (from .next .0) (omega arith), eq-eqb _ _ turn)
+    let range = body-range (inside m) (certificate-body (rules .committee s) m verdicts good) in
+    rw (limited .formed .state, good, limited .formed .records (p .sender .0) (range .sender), recipient-formed rules s p (limited .formed) range, le-ltb (p .sequence .0) (from .next .0) (omega arith), eq-eqb _ _ turn)
     (cond-case P (toItself p) _ _ (λ _. refl) (λ _.
-    need-holds P (leb (p .amount) (from .balance)) _ _ (le-leb _ _ (enough base s p limited range turn))
+    need-holds P (leb (p .amount) (from .balance)) _ _ (le-leb _ _ (enough rules s p limited range turn))
     (cond-case P (eqb (p .kind) 1) _ _ (λ _. refl) (λ account.
-    need-holds P (leb (to .balance + p .amount) highest) _ _ (le-leb _ _ (room base s (p .recipient) (p .amount) limited (to-account p range account) (range .amount))) refl))))
+    need-holds P (leb (to .balance + p .amount) highest) _ _ (le-leb _ _ (room rules s (p .recipient) (p .amount) limited (to-account p range account) (range .amount))) refl))))
 
 -- what reading an account shows of its balance
-pub account-balance : (s : List ℕ) (x : ℕ) → WellFormed base s → x ≤ 63 → account base s x .balance ≡ signed (recordOf base s x .balance)
+pub account-balance : (rules : Rules) (s : List ℕ) (x : ℕ) → WellFormed rules s → x ≤ 63 → account rules s x .balance ≡ signed (recordOf rules s x .balance)
 unfolding account
-account-balance s x formed h = rw (formed .state, le-leb x 63 h, formed .records x h)
+account-balance rules s x formed h = rw (formed .state, le-leb x 63 h, formed .records x h)

@@ -1,6 +1,6 @@
 -- A good certificate with fair verdicts makes its body certain. Assumes nothing.
 use Prim.Native.Nat.{ℕ, zero, suc, _+_, _*_, _<_}
-use mathlib.Core.Path.{_≡_, refl, sym, _∙_}
+use mathlib.Core.Path.{_≡_, refl, sym, ap, _∙_}
 use mathlib.Core.Bool.{Bool, true, false}
 use mathlib.Core.List.{List, [], _∷_}
 use mathlib.Core.Logic.{inl, inr}
@@ -77,11 +77,17 @@ place-of (x ∷ l) k (inl e) = (0, omega arith, sym e)
 place-of (x ∷ l) k (inr i) = let p = place-of l k i in (suc (p .0), omega arith, p .2)
 
 -- good verdicts are 1 at every place
-pub good-at : (vs : List ℕ) (i : ℕ) → wire.good vs ≡ true → i < length vs → getD vs i 0 ≡ 1
+good-at : (vs : List ℕ) (i : ℕ) → wire.good vs ≡ true → i < length vs → getD vs i 0 ≡ 1
 unfolding wire.good
 good-at [] i g h = absurd (omega arith)
 good-at (v ∷ vs) zero g h = eqb-true v 1 (both (eqb v 1) (wire.good vs) g .0)
 good-at (v ∷ vs) (suc i) g h = good-at vs i (both (eqb v 1) (wire.good vs) g .1) (omega arith)
+
+-- a single good verdict is 1
+pub one-good : (vs : List ℕ) → length vs ≡ 1 → wire.good vs ≡ true → vs ≡ 1 ∷ []
+one-good [] n g = absurd (omega arith)
+one-good (v ∷ []) n g = ap (λ x. x ∷ []) (good-at (v ∷ []) 0 g (omega arith))
+one-good (v ∷ u ∷ vs) n g = absurd (omega arith)
 
 -- the honest signers of a certificate that is judged good voted for its body
 abbrev pub Vouched : (ℕ → Bool) → Moment → wire.Committee → List ℕ → List ℕ → Type 0
@@ -100,4 +106,4 @@ pub fair-votes : (f : ℕ) (dishonest : ℕ → Bool) (w : Moment) (m verdicts :
 fair-votes f dishonest w m verdicts fair j k i h =
     let p = place-of (wire.signersIn m) k i in
     let one = good-at verdicts (p .0) (j .good) (omega (arith, j .count)) in
-    rw (p .2) at (fair (j .laid-down) (p .0) (p .1) one) (known-most (wire.signersIn m) (3 * f) k (j .known) i, h)
+    rw (p .2) at (fair (j .laid-down) (j .count) (p .0) (omega (arith, j .count)) one) (known-most (wire.signersIn m) (3 * f) k (j .known) i, h)

@@ -24,12 +24,12 @@ use Rattle.safety.proofs.Holding.{Holds}
 module _ (C : quorums.Committee) (c : wire.Committee) (weighed : Seats C c) (dishonest : ℕ → Bool) (few : quorums.Few C dishonest) (w : Moment)
     (h : Holds C c weighed dishonest w) (m verdicts : List ℕ) (good : judgedBy c m verdicts .number ≡ 0) (vouched : Vouched dishonest w c m verdicts) where
   -- its body is certain
-  certain : model.Certain papers C dishonest (world w) (inside m)
+  pub certain : model.Certain papers C dishonest (world w) (inside m)
   certain = certified C c weighed dishonest w m verdicts good vouched
 
   -- its bit is clear, since another body that was paid under its number would be certain too
   unlogged : (In (inside m) (w .paid) → ⊥)
-      → (t : Bool) → ledger.isRedeemed ledger.base (w .ledger) (payment (inside m) .sender .0) (payment (inside m) .sequence .0) ≡ t → t ≡ false
+      → (t : Bool) → ledger.isRedeemed (w .ledger-rules) (w .ledger) (payment (inside m) .sender .0) (payment (inside m) .sequence .0) ≡ t → t ≡ false
   unlogged unpaid true e =
       let range = body-range (inside m) (certificate-body c m verdicts good) in
       let b = h .books .log-only _ _ (range .sequence) e in
@@ -40,8 +40,8 @@ module _ (C : quorums.Committee) (c : wire.Committee) (weighed : Seats C c) (dis
 
   -- and the pot suffices
   pub pays-whole : payment (inside m) .kind ≡ 1 → (In (inside m) (w .paid) → ⊥)
-      → on-ledger.redeem ledger.base (w .ledger) m verdicts .answer ≡ paid (payment (inside m) .recipient) (payment (inside m) .amount)
+      → on-ledger.redeem (w .ledger-rules) (w .ledger) m verdicts .answer ≡ paid (payment (inside m) .recipient) (payment (inside m) .amount)
   pays-whole kind unpaid =
       let sum = redeemable papers C dishonest few (world w) (h .sound) (inside m) certain (rw kind refl) unpaid in
-      redeem-pays ledger.base (w .ledger) m verdicts (h .books .balanced .state) (rw (h .seats) good) kind (unlogged unpaid _ refl)
+      redeem-pays (w .ledger-rules) (w .ledger) m verdicts (h .books .balanced .state) (rw (h .seats) good) kind (unlogged unpaid _ refl)
       (omega (arith, sum, h .books .balanced .pot))

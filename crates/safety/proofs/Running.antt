@@ -11,18 +11,18 @@ use Rattle.wire.specs.Votes.{committee}
 use Rattle.records.specs.States as machine
 use Rattle.invariants.specs.Theorems.{fresh-limits}
 use Rattle.ledger.specs.States as ledger
-use Rattle.safety.specs.Runs.{Call, InForce, Moment, start}
+use Rattle.safety.specs.Runs.{Call, Moment, start}
 use Rattle.safety.specs.Demand3.{OnHonest, Fair, Run}
 use Rattle.safety.proofs.Papers.{papers}
-use Rattle.safety.proofs.Certificates.{counting-seats, good-at, fair-votes}
+use Rattle.safety.proofs.Certificates.{counting-seats, one-good, fair-votes}
 use Rattle.safety.proofs.Showing.{fresh-follows}
 use Rattle.safety.proofs.Books.{fresh-books}
 use Rattle.safety.proofs.Holding as holding
 
 -- a fresh machine follows the empty history
-fresh-follower : (f k : ℕ) → f ≤ 5 → k ≤ 3 * f → holding.Follower (committee f) [] (machine.freshState machine.base f k) []
+fresh-follower : (f k : ℕ) → f ≤ 5 → k ≤ 3 * f → holding.Follower machine.base (committee f) [] (machine.freshState machine.base f k) []
 unfolding machine.freshState number bytes
-fresh-follower f k h l = record { follows = fresh-follows [] f k; index = refl; limited = fresh-limits f k h l; seats = refl }
+fresh-follower f k h l = record { in-force = refl; follows = fresh-follows [] f k; index = refl; limited = fresh-limits f k h l; seats = refl }
 
 module _ (f : ℕ) (dishonest : ℕ → Bool) where
   -- what holds where 2f + 1 of 3f + 1 are a quorum
@@ -43,6 +43,7 @@ module _ (f : ℕ) (dishonest : ℕ → Bool) where
   holds-start h = record {
     sound = sound-unbegun papers (counting f) dishonest;
     machines = λ k l honest. fresh-follower f k h (members k l);
+    in-force = refl;
     books = fresh-books f h;
     seats = refl;
   }
@@ -51,11 +52,11 @@ module _ (f : ℕ) (dishonest : ℕ → Bool) where
   admitted : (w : Moment) (call : Call) → OnHonest f dishonest call → Fair f dishonest w call → holding.Admitted (counting f) (committee f) (counting-seats f) dishonest w call
   admitted w (Call.order k m verdicts) honest fair = (member k (honest .0), honest .1)
   admitted w (Call.certificate k m verdicts) honest fair = ((member k (honest .0), honest .1), fair-votes f dishonest w m verdicts fair)
-  admitted w (Call.fundingOrder k m verdicts) honest fair = ((member k (honest .0), honest .1), λ l n g. fair l (good-at verdicts 0 g (omega arith)))
+  admitted w (Call.fundingOrder k m verdicts) honest fair = ((member k (honest .0), honest .1), λ l n g. fair l (one-good verdicts n g))
   admitted w (Call.fund out account amount) honest fair = tt
   admitted w (Call.redeem m verdicts) honest fair = fair-votes f dishonest w m verdicts fair
 
   pub run-holds : f ≤ 5 → (w : Moment) → Run f dishonest w → Holds w
   run-holds h w Run.starts-fresh = holds-start h
-  run-holds h w (Run.changes-by-call {w = v} run rules InForce.of01 call honest fair) =
+  run-holds h w (Run.changes-by-call {w = v} run call honest fair) =
       holding.holds-call (counting f) (committee f) (counting-seats f) dishonest v (run-holds h v run) call (admitted v call honest fair)

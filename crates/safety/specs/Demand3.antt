@@ -8,7 +8,7 @@
 use Prim.Native.Nat.{ℕ, _+_, _*_, _≤_, _<_}
 use mathlib.Core.Path.{_≡_}
 use mathlib.Core.Bool.{Bool, true, false, _&&_, not}
-use mathlib.Core.List.{List}
+use mathlib.Core.List.{List, [], _∷_}
 use lib.ListN.{length, getD}
 use lib.Dec.{eqb}
 use lib.IntN.{subℕ}
@@ -27,7 +27,7 @@ use Rattle.records.specs.Calls as on-machine
 use Rattle.ledger.specs.States as ledger
 use Rattle.ledger.specs.Answers.{paid}
 use Rattle.invariants.specs.Meaning.{WellFormed}
-use Rattle.safety.specs.Runs.{Call, Rulebook, InForce, Moment, start, answer, after}
+use Rattle.safety.specs.Runs.{Call, Moment, start, answer, after}
 
 -- what a body takes from account x, brings account x, and brings the ledger, and 1 if account x is its sender; what a funding order brings
 -- account x, and in all
@@ -69,12 +69,12 @@ module _ (f : ℕ) (dishonest : ℕ → Bool) where
 
   -- "A good verdict on an honest machine's vote [..] means that machine [..] really gave that one": of each vote of a certificate
   abbrev pub FairVotes : Moment → List ℕ → List ℕ → Type 0
-  FairVotes w m verdicts = laid m certificateFields ≡ true → (i : ℕ) → i < length (signersIn m) → getD verdicts i 0 ≡ 1
+  FairVotes w m verdicts = laid m certificateFields ≡ true → length verdicts ≡ length (signersIn m) → (i : ℕ) → i < length verdicts → getD verdicts i 0 ≡ 1
       → (let k = getD (signersIn m) i 0 in Honest k → In (inside m) (votes (w .did k)))
 
   -- "or on a funding order, means that [..] the ledger really gave that one": these very bytes
   abbrev pub FairFunding : Moment → List ℕ → List ℕ → Type 0
-  FairFunding w m verdicts = laid m fundingFields ≡ true → getD verdicts 0 0 ≡ 1 → In m (w .given)
+  FairFunding w m verdicts = laid m fundingFields ≡ true → verdicts ≡ 1 ∷ [] → In m (w .given)
 
   abbrev pub Fair : Moment → Call → Type 0
   Fair w (Call.order k m verdicts) = Unit
@@ -86,8 +86,7 @@ module _ (f : ℕ) (dishonest : ℕ → Bool) where
   -- "the rest, like the ledger, start fresh once with that f, each under its own number, and change only by their calls"
   pub data Run : Moment → Type 0 where
     starts-fresh : Run (start f)
-    changes-by-call : {w : Moment} → Run w → (rules : Rulebook) → InForce rules → (call : Call) → OnHonest call → Fair w call
-        → Run (after rules w call)
+    changes-by-call : {w : Moment} → Run w → (call : Call) → OnHonest call → Fair w call → Run (after w call)
 
   -- "Call a payment certain once its honest votes plus the number of dishonest machines reach 2f + 1."
   abbrev pub Certain : Moment → List ℕ → Type 0
@@ -104,6 +103,8 @@ module _ (f : ℕ) (dishonest : ℕ → Bool) where
     pub each-once : Distinct certains
     pub only-certain : (b : List ℕ) → In b certains → Certain w b
     pub all-certain : (b : List ℕ) → Certain w b → In b certains
+    -- a good certificate makes its payment certain
+    pub good-certain : (m verdicts : List ℕ) → Good m verdicts → FairVotes w m verdicts → Certain w (inside m)
     -- "no account has two certain payments under one sequence number"
     pub one-a-number : (b c : List ℕ) → Certain w b → Certain w c → payment b .sender .0 ≡ payment c .sender .0
         → payment b .sequence .0 ≡ payment c .sequence .0 → b ≡ c
@@ -112,30 +113,35 @@ module _ (f : ℕ) (dishonest : ℕ → Bool) where
     -- "the certain payments to the ledger never exceed all funding"
     pub solvent : sumOf toLedger certains ≤ sumOf amountOf (w .given)
     -- "a good certificate to the ledger, not yet redeemed, is paid whole"
-    pub payable : (rules : Rulebook) → InForce rules → (m verdicts : List ℕ) → Good m verdicts → FairVotes w m verdicts → payment (inside m) .kind ≡ 1
-        → (In (inside m) (w .paid) → ⊥) → answer rules w (Call.redeem m verdicts) ≡ paid (payment (inside m) .recipient) (payment (inside m) .amount)
+    pub payable : (m verdicts : List ℕ) → Good m verdicts → FairVotes w m verdicts → payment (inside m) .kind ≡ 1 → (In (inside m) (w .paid) → ⊥)
+        → answer w (Call.redeem m verdicts) ≡ paid (payment (inside m) .recipient) (payment (inside m) .amount)
     -- "one body is one payment, redeemed once under any votes": and only a certain one to the ledger is
     pub paid-once : Distinct (w .paid)
     pub paid-certain : (b : List ℕ) → In b (w .paid) → Certain w b × (payment b .kind ≡ 1)
-    -- "and each machine counts once for it"
-    pub counted-once : (m verdicts : List ℕ) → Good m verdicts → Distinct (signersIn m)
+    -- "and each machine counts once for it": a good certificate has 2f + 1 different machines of the committee or more
+    pub counted-once : (m verdicts : List ℕ) → Good m verdicts
+        → Distinct (signersIn m) × ((k : ℕ) → In k (signersIn m) → k ≤ 3 * f) × (2 * f + 1 ≤ length (signersIn m))
 
   -- what the bytes show besides
   pub record Kept (w : Moment) : Type 0 where
     -- every state is well formed
-    pub machines-formed : (k : ℕ) → Honest k → WellFormed machine.base (w .machines k)
-    pub ledger-formed : ledger.isState ledger.base (w .ledger) ≡ true
+    pub machines-formed : (k : ℕ) → Honest k → WellFormed (w .rules k) (w .machines k)
+    pub ledger-formed : ledger.isState (w .ledger-rules) (w .ledger) ≡ true
     -- no call meets a limit on balance or pot
-    pub unlimited : (rules : Rulebook) → InForce rules → (call : Call) → OnHonest call → answer rules w call .number ≡ 16 → ⊥
+    pub unlimited : (call : Call) → OnHonest call → answer w call .number ≡ 16 → ⊥
     -- "A certificate must count when it comes, even if a balance dips below zero until the credit arrives": in its turn a good one is confirmed
-    pub counts : (rules : Rulebook) → InForce rules → (k : ℕ) → Honest k → (m verdicts : List ℕ) → Good m verdicts
-        → payment (inside m) .sequence .0 ≡ machine.recordOf machine.base (w .machines k) (payment (inside m) .sender .0) .next .0
-        → answer rules w (Call.certificate k m verdicts) ≡ confirmed (length (signersIn m))
+    pub counts : (k : ℕ) → Honest k → (m verdicts : List ℕ) → Good m verdicts
+        → payment (inside m) .sequence .0 ≡ machine.recordOf (w .rules k) (w .machines k) (payment (inside m) .sender .0) .next .0
+        → answer w (Call.certificate k m verdicts) ≡ confirmed (length (signersIn m))
+    -- an honest machine confirms and credits a payment once, and only a certain one
+    pub debited-once : (k : ℕ) → Honest k → Distinct (debits (w .did k))
+    pub credited-once : (k : ℕ) → Honest k → Distinct (credits (w .did k))
+    pub debits-certain : (k : ℕ) → Honest k → (b : List ℕ) → In b (debits (w .did k)) → Certain w b
     -- a balance is the funding taken plus the confirmed credits less the confirmed payments; it may be negative
-    pub balances : (k : ℕ) → Honest k → (x : ℕ) → x ≤ 63 → on-machine.account machine.base (w .machines k) x .balance
+    pub balances : (k : ℕ) → Honest k → (x : ℕ) → x ≤ 63 → on-machine.account (w .rules k) (w .machines k) x .balance
         ≡ subℕ (sumOf (funds x) (fundings (w .did k)) + sumOf (brings x) (credits (w .did k))) (sumOf (takes x) (debits (w .did k)))
     -- a next sequence is the number of confirmed payments, an index that of the funding orders taken or given, the pot all funding less what was paid
-    pub nexts : (k : ℕ) → Honest k → (x : ℕ) → x ≤ 63 → machine.recordOf machine.base (w .machines k) x .next .0 ≡ sumOf (isOf x) (debits (w .did k))
+    pub nexts : (k : ℕ) → Honest k → (x : ℕ) → x ≤ 63 → machine.recordOf (w .rules k) (w .machines k) x .next .0 ≡ sumOf (isOf x) (debits (w .did k))
     pub indexes : (k : ℕ) → Honest k → lastIndex (w .machines k) ≡ length (fundings (w .did k))
     pub ledger-index : lastIndex (w .ledger) ≡ length (w .given)
     pub pot : ledger.pot (w .ledger) + sumOf toLedger (w .paid) ≡ sumOf amountOf (w .given)

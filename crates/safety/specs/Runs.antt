@@ -1,4 +1,4 @@
--- What calls on machines and on the ledger leave, moment by moment, and what was done by their answers.
+-- What calls on machines and on the ledger leave, moment by moment, and what was done, going by the answers.
 -- A body and a funding order are their bytes.
 use Prim.Native.Nat.{ℕ}
 use mathlib.Core.Bool.{Bool, _&&_, cond}
@@ -23,44 +23,36 @@ pub data Call : Type 0 where
   fund : List ℕ → ℕ → ℕ → Call
   redeem : List ℕ → List ℕ → Call
 
--- the rules that a call is made by, and those of 01
-pub record Rulebook : Type 0 where
-  pub machines : machine.Rules
-  pub ledger : ledger.Rules
-
-abbrev pub rulesOf01 : Rulebook
-rulesOf01 = record { machines = machine.base; ledger = ledger.base }
-
--- the rules that were ever in force: those of 01. Rules that come later are added here, and earlier calls go on counting by theirs
-pub data InForce : Rulebook → Type 0 where
-  of01 : InForce rulesOf01
-
--- a moment: the bytes of each machine and of the ledger; and what was done up to then, read off the answers, newest first: by each machine,
--- the funding orders that the ledger wrote, and the bodies that it paid
+-- A moment. Of each machine and of the ledger the rules in force on it and its bytes; and what was done up to then, going by the answers, newest
+-- first: by each machine, the funding orders that the ledger wrote, and the bodies that it paid
 pub record Moment : Type 0 where
+  pub rules : ℕ → machine.Rules
   pub machines : ℕ → List ℕ
-  pub ledger : List ℕ
   pub did : ℕ → List (Event (List ℕ) (List ℕ))
+  pub ledger-rules : ledger.Rules
+  pub ledger : List ℕ
   pub given : List (List ℕ)
   pub paid : List (List ℕ)
 
--- the rest, like the ledger, start fresh with that f, each under its own number
+-- all fresh with this f, each machine under its own number, under the rules of 01
 abbrev pub start : ℕ → Moment
 start f = record {
+  rules = λ k. machine.base;
   machines = λ k. machine.freshState machine.base f k;
-  ledger = ledger.freshState ledger.base f;
   did = λ k. [];
+  ledger-rules = ledger.base;
+  ledger = ledger.freshState ledger.base f;
   given = [];
   paid = [];
 }
 
--- what a call answers
-abbrev pub answer : Rulebook → Moment → Call → Said
-answer rules w (Call.order k m verdicts) = on-machine.order (rules .machines) (w .machines k) m verdicts .answer
-answer rules w (Call.certificate k m verdicts) = on-machine.certificate (rules .machines) (w .machines k) m verdicts .answer
-answer rules w (Call.fundingOrder k m verdicts) = on-machine.fundingOrder (rules .machines) (w .machines k) m verdicts .answer
-answer rules w (Call.fund out account amount) = on-ledger.fund (rules .ledger) (w .ledger) out account amount .answer
-answer rules w (Call.redeem m verdicts) = on-ledger.redeem (rules .ledger) (w .ledger) m verdicts .answer
+-- what a call answers, by the rules in force where it is made
+abbrev pub answer : Moment → Call → Said
+answer w (Call.order k m verdicts) = on-machine.order (w .rules k) (w .machines k) m verdicts .answer
+answer w (Call.certificate k m verdicts) = on-machine.certificate (w .rules k) (w .machines k) m verdicts .answer
+answer w (Call.fundingOrder k m verdicts) = on-machine.fundingOrder (w .rules k) (w .machines k) m verdicts .answer
+answer w (Call.fund out account amount) = on-ledger.fund (w .ledger-rules) (w .ledger) out account amount .answer
+answer w (Call.redeem m verdicts) = on-ledger.redeem (w .ledger-rules) (w .ledger) m verdicts .answer
 
 -- one more in front, unless the call was refused
 abbrev pub noted : {A : Type 0} → Said → A → List A → List A
@@ -70,24 +62,43 @@ noted said a l = cond (eqb (said .number) 0) (a ∷ l) l
 abbrev pub isConfirmed : Said → Bool
 isConfirmed said = eqb (said .number) 0 && eqb (getD (said .values) 0 1) 0
 
--- the moment with other bytes and deeds of a machine
+-- the moment with other bytes and deeds of a machine, and of the ledger
 abbrev pub acts : Moment → ℕ → List ℕ → List (Event (List ℕ) (List ℕ)) → Moment
-acts w k s did = record { machines = instead k s (w .machines); ledger = w .ledger; did = instead k did (w .did); given = w .given; paid = w .paid }
+acts w k s did = record {
+  rules = w .rules;
+  machines = instead k s (w .machines);
+  did = instead k did (w .did);
+  ledger-rules = w .ledger-rules;
+  ledger = w .ledger;
+  given = w .given;
+  paid = w .paid;
+}
+
+abbrev pub keepsBooks : Moment → List ℕ → List (List ℕ) → List (List ℕ) → Moment
+keepsBooks w s given paid = record {
+  rules = w .rules;
+  machines = w .machines;
+  did = w .did;
+  ledger-rules = w .ledger-rules;
+  ledger = s;
+  given = given;
+  paid = paid;
+}
 
 -- the moment after a call: every byte as the contract says, and what the answer says was done
-abbrev pub after : Rulebook → Moment → Call → Moment
-after rules w (Call.order k m verdicts) =
-    let o = on-machine.order (rules .machines) (w .machines k) m verdicts in
+abbrev pub after : Moment → Call → Moment
+after w (Call.order k m verdicts) =
+    let o = on-machine.order (w .rules k) (w .machines k) m verdicts in
     acts w k (o .state) (noted (o .answer) (Event.voted (inside m)) (w .did k))
-after rules w (Call.certificate k m verdicts) =
-    let o = on-machine.certificate (rules .machines) (w .machines k) m verdicts in
+after w (Call.certificate k m verdicts) =
+    let o = on-machine.certificate (w .rules k) (w .machines k) m verdicts in
     acts w k (o .state) (cond (isConfirmed (o .answer)) (Event.credited (inside m) ∷ Event.confirmed (inside m) ∷ w .did k) (w .did k))
-after rules w (Call.fundingOrder k m verdicts) =
-    let o = on-machine.fundingOrder (rules .machines) (w .machines k) m verdicts in
+after w (Call.fundingOrder k m verdicts) =
+    let o = on-machine.fundingOrder (w .rules k) (w .machines k) m verdicts in
     acts w k (o .state) (noted (o .answer) (Event.funded m) (w .did k))
-after rules w (Call.fund out account amount) =
-    let o = on-ledger.fund (rules .ledger) (w .ledger) out account amount in
-    record { machines = w .machines; ledger = o .state; did = w .did; given = noted (o .answer) (take 16 (o .out)) (w .given); paid = w .paid }
-after rules w (Call.redeem m verdicts) =
-    let o = on-ledger.redeem (rules .ledger) (w .ledger) m verdicts in
-    record { machines = w .machines; ledger = o .state; did = w .did; given = w .given; paid = noted (o .answer) (inside m) (w .paid) }
+after w (Call.fund out account amount) =
+    let o = on-ledger.fund (w .ledger-rules) (w .ledger) out account amount in
+    keepsBooks w (o .state) (noted (o .answer) (take 16 (o .out)) (w .given)) (w .paid)
+after w (Call.redeem m verdicts) =
+    let o = on-ledger.redeem (w .ledger-rules) (w .ledger) m verdicts in
+    keepsBooks w (o .state) (w .given) (noted (o .answer) (inside m) (w .paid))
