@@ -1,3 +1,4 @@
 pub mod Checking
 pub mod Example
-pub mod Needed
+pub mod Premises
+pub mod Answers

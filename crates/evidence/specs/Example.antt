@@ -10,7 +10,6 @@ use Rattle.wire.specs.Votes.{certificateBytes}
 use Rattle.wire.specs.Refusals.{Said, refuses}
 use Rattle.wire.specs.declared.kinds.Payment.{Payment}
 use Rattle.states.specs.Outcomes.{done}
-use Rattle.records.specs.States as machine
 use Rattle.records.specs.Answers.{voteNew, voteRepeated, confirmed, already}
 use Rattle.records.specs.Calls.{account}
 use Rattle.ledger.specs.Answers.{funded, paid}

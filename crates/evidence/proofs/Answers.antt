@@ -1,0 +1,284 @@
+-- Refusals 1 to 7 and 9 to 14, and *already*, are needed: without any one of them fair calls break a promise of demand 3, with one machine in four
+-- dishonest. (8 follows from 11; 15 and 16 are never answered in a run; 17 and 18 are the ledger's own.) Assumes nothing.
+use Prim.Native.Nat.{ℕ, _+_, _≤_}
+use mathlib.Core.Path.{_≡_, refl, ap}
+use mathlib.Core.Bool.{Bool, true, false, _&&_, not}
+use mathlib.Core.List.{List, [], _∷_, _++_}
+use mathlib.Core.Logic.{inl, inr}
+use native.Mathlib.Omega.{arith}
+use lib.ListN.{replicate}
+use lib.Dec.{eqb, lit≤}
+use borrow.Author.Tests.{eqb-true}
+use Rattle.model.specs.Lists.{In, isIn}
+use Rattle.model.specs.Histories.{Event, votes}
+use Rattle.model.specs.Quorums.{count}
+use Rattle.model.proofs.SumLaws.{is-in, sum-in, sum-zero}
+use Rattle.octets.specs.Octets.{same}
+use Rattle.wire.specs.Messages.{payment, fundingBytes}
+use Rattle.wire.specs.Votes.{certificateBytes}
+use Rattle.wire.specs.Refusals.{Said, refuses}
+use Rattle.wire.specs.declared.kinds.Payment.{Payment}
+use Rattle.wire.proofs.FieldLaws.{both}
+use Rattle.records.specs.Answers.{already}
+use Rattle.safety.specs.Runs.{Call, Moment, start, answer, after}
+use Rattle.safety.specs.Demand3.{takes, brings, Safe}
+use Rattle.safety.proofs.Papers.{same-is, is-same}
+use Rattle.evidence.specs.Example.{isThree, e2, signature, bodyOf, orderOf, certificateOf, good, allGood}
+use Rattle.evidence.specs.Without.{anyway, Without, Step, afterSteps, Needed}
+use Rattle.evidence.proofs.Checking.{isFair, fair-call, messages, machine-calls, ledger-calls}
+use Rattle.evidence.proofs.Premises.{within}
+
+-- ---- such runs by computing
+
+-- two answers are the same
+abbrev isSame : Said → Said → Bool
+isSame a b = eqb (a .number) (b .number) && same (a .values) (b .values)
+
+-- each step is fair, and what is done anyway is answered so
+abbrev areWithout : Said → Moment → List Step → Bool
+areWithout said w [] = true
+areWithout said w (Step.made call ∷ steps) = isFair 1 isThree w call && areWithout said (after w call) steps
+areWithout said w (Step.forced call ∷ steps) = isFair 1 isThree w call && (isSame (answer w call) said && areWithout said (anyway w call) steps)
+
+is-said : (a b : Said) → isSame a b ≡ true → a ≡ b
+is-said a b h =
+    let t = both (eqb (a .number) (b .number)) (same (a .values) (b .values)) h in
+    let n = eqb-true _ _ (t .0) in
+    let v = same-is (a .values) (b .values) (t .1) in
+    λ i. record { number = n i; values = v i }
+
+checked : (said : Said) (w : Moment) (steps : List Step) → Without said isThree w → areWithout said w steps ≡ true → Without said isThree (afterSteps w steps)
+checked said w [] run h = run
+checked said w (Step.made call ∷ steps) run h =
+    let t = both (isFair 1 isThree w call) _ h in
+    let c = fair-call 1 isThree w call (t .0) in
+    checked said (after w call) steps (Without.changes-by-call run call (c .0) (c .1)) (t .1)
+checked said w (Step.forced call ∷ steps) run h =
+    let t = both (isFair 1 isThree w call) _ h in
+    let c = fair-call 1 isThree w call (t .0) in
+    let u = both (isSame (answer w call) said) _ (t .1) in
+    checked said (anyway w call) steps (Without.leaves-out run call (c .0) (c .1) (is-said _ _ (u .0))) (u .1)
+
+-- so the answer is needed where the steps pass the test and a promise is broken
+needed : (said : Said) (steps : List Step) → areWithout said (start 1) steps ≡ true → (Safe 1 isThree (afterSteps (start 1) steps) → ⊥) → Needed said isThree steps
+needed said steps h broken = record { run = checked said (start 1) steps Without.starts-fresh h; broken = broken }
+
+-- two votes are not three
+too-few : 3 ≤ 2 → ⊥
+too-few h = omega arith
+
+-- ---- payments
+
+-- sender, kind, recipient, amount, sequence
+abbrev pays : ℕ → ℕ → ℕ → ℕ → ℕ → Payment
+pays sender kind recipient amount sequence =
+    record { sender = record { 0 = sender }; kind = kind; recipient = recipient; amount = amount; sequence = record { 0 = sequence } }
+
+-- two payments of account 2 to account 7 under one number
+abbrev one : Payment
+one = pays 2 0 7 500 0
+
+abbrev two : Payment
+two = pays 2 0 7 400 0
+
+different : bodyOf one ≡ bodyOf two → ⊥
+unfolding messages
+different e = let z : _≡_ {A = ℕ} 500 400 = ap (λ b. payment b .amount) e in omega arith
+
+-- account 2 pays ledger account 9, and more than it was funded with
+abbrev cash : Payment
+cash = pays 2 1 9 1_000 0
+
+abbrev tooMuch : Payment
+tooMuch = pays 2 1 9 3_000 0
+
+-- account 2 is funded with 2,000, and machines 0, 1 and 2 take the order
+abbrev funded : List Step
+funded =
+    Step.made (Call.fund (replicate 16 0) 2 2_000)
+    ∷ Step.made (Call.fundingOrder 0 e2 good) ∷ Step.made (Call.fundingOrder 1 e2 good) ∷ Step.made (Call.fundingOrder 2 e2 good) ∷ []
+
+-- a machine is asked for its vote; a certificate comes to it, with three votes; the ledger is asked to pay one
+abbrev votes-for : ℕ → Payment → Call
+votes-for k p = Call.order k (orderOf p) good
+
+abbrev confirms : ℕ → Payment → Call
+confirms k p = Call.certificate k (certificateOf p 0 1 3) allGood
+
+-- ---- certificates that say less than they should: the ledger pays what is not certain
+
+abbrev paysFor : List ℕ → List ℕ → List Step
+paysFor m verdicts = funded ++ Step.made (votes-for 0 cash) ∷ Step.forced (Call.redeem m verdicts) ∷ []
+
+-- 1: a byte behind the last vote, so that it is no certificate
+pub refusal-1 : Needed (refuses 1) isThree (paysFor (certificateOf cash 0 1 2 ++ 0 ∷ []) allGood)
+unfolding messages machine-calls ledger-calls
+refusal-1 = needed _ _ refl (λ safe. too-few (safe .paid-certain (bodyOf cash) (inl refl) .0))
+
+-- 3: no verdicts
+pub refusal-3 : Needed (refuses 3) isThree (paysFor (certificateOf cash 0 1 2) [])
+unfolding messages machine-calls ledger-calls
+refusal-3 = needed _ _ refl (λ safe. too-few (safe .paid-certain (bodyOf cash) (inl refl) .0))
+
+-- 4: bad verdicts on two votes
+pub refusal-4 : Needed (refuses 4) isThree (paysFor (certificateOf cash 0 1 2) (1 ∷ 0 ∷ 0 ∷ []))
+unfolding messages machine-calls ledger-calls
+refusal-4 = needed _ _ refl (λ safe. too-few (safe .paid-certain (bodyOf cash) (inl refl) .0))
+
+-- 5: votes of machines 4 and 5, which there are not
+pub refusal-5 : Needed (refuses 5) isThree (paysFor (certificateOf cash 0 4 5) allGood)
+unfolding messages machine-calls ledger-calls
+refusal-5 = needed _ _ refl (λ safe. too-few (safe .paid-certain (bodyOf cash) (inl refl) .0))
+
+-- 6: machine 0's vote three times
+pub refusal-6 : Needed (refuses 6) isThree (paysFor (certificateOf cash 0 0 0) allGood)
+unfolding messages machine-calls ledger-calls
+refusal-6 = needed _ _ refl (λ safe. too-few (safe .paid-certain (bodyOf cash) (inl refl) .0))
+
+-- 7: machine 0's vote alone
+pub refusal-7 : Needed (refuses 7) isThree (paysFor (certificateBytes (bodyOf cash) (0 ∷ signature)) good)
+unfolding messages machine-calls ledger-calls
+refusal-7 = needed _ _ refl (λ safe. too-few (safe .paid-certain (bodyOf cash) (inl refl) .0))
+
+-- ---- orders
+
+-- 9: machine 0 votes for a second body while the first is pending. Machines 0, 1 and 3 count for one, 0, 2 and 3 for the other
+pub refusal-9 : Needed (refuses 9) isThree
+    (funded ++ Step.made (votes-for 0 one) ∷ Step.made (votes-for 1 one) ∷ Step.made (votes-for 2 two) ∷ Step.forced (votes-for 0 two) ∷ [])
+unfolding messages machine-calls ledger-calls
+refusal-9 = needed _ _ refl (λ safe. different (safe .one-a-number (bodyOf one) (bodyOf two) (lit≤ tt) (lit≤ tt) refl refl))
+
+-- 10 of an order: it votes under the number of a payment that is confirmed there
+pub refusal-10 : Needed (refuses 10) isThree
+    (funded ++ Step.made (votes-for 0 one) ∷ Step.made (votes-for 1 one) ∷ Step.made (confirms 0 one) ∷ Step.made (votes-for 2 two)
+    ∷ Step.forced (votes-for 0 two) ∷ [])
+unfolding messages machine-calls ledger-calls
+refusal-10 = needed _ _ refl (λ safe. different (safe .one-a-number (bodyOf one) (bodyOf two) (lit≤ tt) (lit≤ tt) refl refl))
+
+-- 11: two machines vote for 3,000 where 2,000 were funded
+abbrev steps-11 : List Step
+steps-11 = funded ++ Step.forced (votes-for 0 tooMuch) ∷ Step.forced (votes-for 1 tooMuch) ∷ []
+
+pub refusal-11 : Needed (refuses 11) isThree steps-11
+unfolding messages machine-calls ledger-calls
+refusal-11 = needed _ _ refl (λ safe. let z : 3_000 ≤ 2_000 = within isThree (afterSteps (start 1) steps-11) (bodyOf tooMuch) safe (lit≤ tt) in omega arith)
+
+-- 12: two machines take the funding order twice
+abbrev steps-12 : List Step
+steps-12 =
+    funded ++ Step.forced (Call.fundingOrder 0 e2 good) ∷ Step.forced (Call.fundingOrder 1 e2 good)
+    ∷ Step.made (votes-for 0 tooMuch) ∷ Step.made (votes-for 1 tooMuch) ∷ []
+
+pub refusal-12 : Needed (refuses 12) isThree steps-12
+unfolding messages machine-calls ledger-calls
+refusal-12 = needed _ _ refl (λ safe. let z : 3_000 ≤ 2_000 = within isThree (afterSteps (start 1) steps-12) (bodyOf tooMuch) safe (lit≤ tt) in omega arith)
+
+-- ---- redeeming
+
+-- 13: a payment to an account is paid by the ledger
+pub refusal-13 : Needed (refuses 13) isThree
+    (funded ++ Step.made (votes-for 0 one) ∷ Step.made (votes-for 1 one) ∷ Step.forced (Call.redeem (certificateOf one 0 1 3) allGood) ∷ [])
+unfolding messages machine-calls ledger-calls
+refusal-13 = needed _ _ refl (λ safe. let z : _≡_ {A = ℕ} 0 1 = safe .paid-certain (bodyOf one) (inl refl) .1 in omega arith)
+
+-- 14: a payment is paid twice
+pub refusal-14 : Needed (refuses 14) isThree
+    (funded ++ Step.made (votes-for 0 cash) ∷ Step.made (votes-for 1 cash) ∷ Step.made (Call.redeem (certificateOf cash 0 1 3) allGood)
+    ∷ Step.forced (Call.redeem (certificateOf cash 0 1 3) allGood) ∷ [])
+unfolding messages machine-calls ledger-calls
+refusal-14 = needed _ _ refl (λ safe. safe .paid-once .0 (inl refl))
+
+-- ---- certificates on a machine
+
+-- *already*: two machines confirm and credit 1,500 twice, and account 7 pays 3,000 to the ledger
+abbrev large : Payment
+large = pays 2 0 7 1_500 0
+
+abbrev steps-already : List Step
+steps-already =
+    funded ++ Step.made (votes-for 0 large) ∷ Step.made (votes-for 1 large) ∷ Step.made (confirms 0 large) ∷ Step.made (confirms 1 large)
+    ∷ Step.forced (confirms 0 large) ∷ Step.forced (confirms 1 large)
+    ∷ Step.made (votes-for 0 (pays 7 1 9 3_000 0)) ∷ Step.made (votes-for 1 (pays 7 1 9 3_000 0)) ∷ []
+
+pub already-needed : Needed (already 3) isThree steps-already
+unfolding messages machine-calls ledger-calls
+already-needed = needed _ _ refl (λ safe. let z : 3_000 ≤ 2_000 = within isThree (afterSteps (start 1) steps-already) (bodyOf (pays 7 1 9 3_000 0)) safe (lit≤ tt) in omega arith)
+
+-- 10 of a certificate: one that comes ahead of its turn is confirmed, and then, in what is now its turn, once more. Account 2 pays account 7 1 and then 900
+-- by the votes of 1, 2 and 3, account 3 the same by those of 0, 2 and 3; the second payment of each comes early and twice to the machine that did not vote.
+-- There account 7 has 2,701, of 2,000 that were funded
+abbrev from-2 : ℕ → ℕ → Payment
+from-2 amount sequence = pays 2 0 7 amount sequence
+
+abbrev from-3 : ℕ → ℕ → Payment
+from-3 amount sequence = pays 3 0 7 amount sequence
+
+abbrev order-of : ℕ → ℕ → List ℕ
+order-of index account = fundingBytes (record { index = record { 0 = index }; account = record { 0 = account }; amount = 1_000 })
+
+-- machine k takes both funding orders
+abbrev takesBoth : ℕ → List Step
+takesBoth k = Step.made (Call.fundingOrder k (order-of 1 2) good) ∷ Step.made (Call.fundingOrder k (order-of 2 3) good) ∷ []
+
+-- machines k and 2 vote for a payment, and get its certificate with their votes and machine 3's
+abbrev passes : ℕ → Payment → List Step
+passes k p =
+    Step.made (votes-for k p) ∷ Step.made (votes-for 2 p)
+    ∷ Step.made (Call.certificate k (certificateOf p k 2 3) allGood) ∷ Step.made (Call.certificate 2 (certificateOf p k 2 3) allGood) ∷ []
+
+-- and another machine gets it early, twice
+abbrev earlyTwice : ℕ → ℕ → Payment → List Step
+earlyTwice n k p = Step.forced (Call.certificate n (certificateOf p k 2 3) allGood) ∷ Step.made (Call.certificate n (certificateOf p k 2 3) allGood) ∷ []
+
+abbrev steps-early : List Step
+steps-early =
+    (Step.made (Call.fund (replicate 16 0) 2 1_000) ∷ Step.made (Call.fund (replicate 16 0) 3 1_000) ∷ [])
+    ++ takesBoth 0 ++ takesBoth 1 ++ takesBoth 2
+    ++ passes 1 (from-2 1 0) ++ passes 1 (from-2 900 1) ++ passes 0 (from-3 1 0) ++ passes 0 (from-3 900 1)
+    ++ earlyTwice 0 1 (from-2 900 1) ++ earlyTwice 1 0 (from-3 900 1)
+    ++ Step.made (votes-for 0 (pays 7 1 9 2_701 0)) ∷ Step.made (votes-for 1 (pays 7 1 9 2_701 0)) ∷ []
+
+pub refusal-10-early : Needed (refuses 10) isThree steps-early
+unfolding messages machine-calls ledger-calls
+refusal-10-early = needed _ _ refl (λ safe. let z : 2_701 ≤ 2_000 = within isThree (afterSteps (start 1) steps-early) (bodyOf (pays 7 1 9 2_701 0)) safe (lit≤ tt) in omega arith)
+
+-- ---- values
+
+-- 2: a payment of a kind that there is not. Account 7 is credited with it and pays it to the ledger, and has neither funding nor a certain payment to it
+abbrev ofKind2 : Payment
+ofKind2 = pays 2 2 7 1_500 0
+
+abbrev payout : Payment
+payout = pays 7 1 9 1_500 0
+
+abbrev steps-2 : List Step
+steps-2 =
+    funded ++ Step.forced (votes-for 0 ofKind2) ∷ Step.forced (votes-for 1 ofKind2) ∷ Step.forced (confirms 0 ofKind2) ∷ Step.forced (confirms 1 ofKind2)
+    ∷ Step.made (votes-for 0 payout) ∷ Step.made (votes-for 1 payout) ∷ []
+
+-- where machines 0 and 1 voted for these bodies and machine 2 for none, a payment that is certain is one of them
+counted : (did : ℕ → List (Event (List ℕ) (List ℕ))) (b : List ℕ) (l : List (List ℕ)) → votes (did 0) ≡ l → votes (did 1) ≡ l → votes (did 2) ≡ []
+    → 3 ≤ count (λ k. not (isThree k) && isIn same b (votes (did k))) 4 + count isThree 4 → In b l
+unfolding isIn
+counted did b l zeroth first second c = is-in same same-is is-same b l (go (isIn same b l) refl)
+  where
+    go : (t : Bool) → isIn same b l ≡ t → t ≡ true
+    go true e = refl
+    go false e = let z : 3 ≤ 1 = rw (zeroth, first, second, e) at c in absurd (omega arith)
+
+-- the payment of kind 2 and its payout bring account 7 nothing
+nothing-brought : (b : List ℕ) → In b (bodyOf payout ∷ bodyOf ofKind2 ∷ []) → brings 7 b ≡ 0
+unfolding messages
+nothing-brought b (inl e) = rw e refl
+nothing-brought b (inr (inl e)) = rw e refl
+nothing-brought b (inr (inr i)) = absurd i
+
+pub refusal-2 : Needed (refuses 2) isThree steps-2
+unfolding messages machine-calls ledger-calls
+refusal-2 =
+    needed _ _ refl (λ safe.
+    let none = sum-zero (brings 7) (safe .certains) (λ b i.
+    nothing-brought b (counted (afterSteps (start 1) steps-2 .did) b (bodyOf payout ∷ bodyOf ofKind2 ∷ []) refl refl refl (safe .only-certain b i))) in
+    let some : 1_500 ≤ _ = sum-in (takes 7) (safe .certains) (bodyOf payout) (safe .all-certain (bodyOf payout) (lit≤ tt)) in
+    let all : _ ≤ 0 + _ = safe .covered 7 in
+    omega arith)

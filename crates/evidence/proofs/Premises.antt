@@ -1,0 +1,115 @@
+-- No premise of demand 3 can be dropped, and *certain* cannot ask for less: for each, what breaks a promise without it. Assumes nothing.
+use Prim.Native.Nat.{ℕ, _+_, _*_, _≤_}
+use mathlib.Core.Path.{_≡_, refl, ap}
+use mathlib.Core.Bool.{Bool, not, _&&_}
+use mathlib.Core.List.{List, [], _∷_}
+use mathlib.Core.Logic.{inl}
+use native.Mathlib.Omega.{arith}
+use lib.ListN.{replicate}
+use lib.Dec.{leb, lit≤}
+use Rattle.model.specs.Lists.{isIn, sumOf}
+use Rattle.model.specs.Quorums.{count}
+use Rattle.model.specs.Histories.{votes}
+use Rattle.model.proofs.SumLaws.{sum-in}
+use Rattle.octets.specs.Octets.{same}
+use Rattle.wire.specs.Messages.{payment}
+use Rattle.wire.specs.declared.kinds.Payment.{Payment}
+use Rattle.safety.specs.Runs.{Call, Moment, start, after}
+use Rattle.safety.specs.Demand3.{toLedger, amountOf, Run, Certain, Safe}
+use Rattle.evidence.specs.Example.{afterAll, isThree, e1, e2, bodyOf, orderOf, certificateOf, good, allGood, reached}
+use Rattle.evidence.proofs.Checking.{checked, messages, machine-calls, ledger-calls}
+
+-- another payment under E1's number: account 2 pays account 7 1,600
+abbrev other : Payment
+other = record { sender = record { 0 = 2 }; kind = 0; recipient = 7; amount = 1_600; sequence = record { 0 = 0 } }
+
+-- account 2 pays ledger account 9
+abbrev cash : Payment
+cash = record { sender = record { 0 = 2 }; kind = 1; recipient = 9; amount = 1_500; sequence = record { 0 = 0 } }
+
+-- the two bodies are different
+different : bodyOf e1 ≡ bodyOf other → ⊥
+unfolding messages
+different e = let z : _≡_ {A = ℕ} 1_500 1_600 = ap (λ b. payment b .amount) e in omega arith
+
+-- a certain payment to the ledger is at most all funding
+pub within : (dishonest : ℕ → Bool) (w : Moment) (b : List ℕ) → Safe 1 dishonest w → Certain 1 dishonest w b → toLedger b ≤ sumOf amountOf (w .given)
+within dishonest w b safe certain = omega (arith, safe .solvent, sum-in toLedger (safe .certains) b (safe .all-certain b certain))
+
+-- account 2 is funded, and all three honest machines know it
+abbrev funded : Moment
+funded = reached (Call.fund (replicate 16 0) 2 2_000 ∷ Call.fundingOrder 0 e2 good ∷ Call.fundingOrder 1 e2 good ∷ Call.fundingOrder 2 e2 good ∷ [])
+
+-- machines 0 and 1 vote for a payment
+abbrev bothVote : Moment → Payment → Moment
+bothVote w p = afterAll w (Call.order 0 (orderOf p) good ∷ Call.order 1 (orderOf p) good ∷ [])
+
+-- "At most f do as they like": with f + 1 dishonest, machines 2 and 3, one vote each makes two payments certain under one number
+abbrev fromTwo : ℕ → Bool
+fromTwo k = leb 2 k
+
+abbrev split : List Call
+split =
+    Call.fund (replicate 16 0) 2 2_000 ∷ Call.fundingOrder 0 e2 good ∷ Call.fundingOrder 1 e2 good
+    ∷ Call.order 0 (orderOf e1) good ∷ Call.order 1 (orderOf other) good ∷ []
+
+pub at-most-f : (count fromTwo 4 ≡ 2) × Run 1 fromTwo (reached split) × (Safe 1 fromTwo (reached split) → ⊥)
+unfolding messages machine-calls ledger-calls
+at-most-f = (
+  refl,
+  checked 1 fromTwo (start 1) split Run.starts-fresh refl,
+  λ safe. different (safe .one-a-number (bodyOf e1) (bodyOf other) (lit≤ tt) (lit≤ tt) refl refl),
+)
+
+-- "reach 2f + 1": in the same run with machine 3 alone dishonest, two different bodies of one sender and sequence reach 2f
+abbrev votesFor : Moment → List ℕ → ℕ
+votesFor w b = count (λ k. not (isThree k) && isIn same b (votes (w .did k))) 4 + count isThree 4
+
+pub reach-2f+1 : Run 1 isThree (reached split) × (2 * 1 ≤ votesFor (reached split) (bodyOf e1)) × (2 * 1 ≤ votesFor (reached split) (bodyOf other))
+    × (bodyOf e1 ≡ bodyOf other → ⊥) × (e1 .sender .0 ≡ other .sender .0) × (e1 .sequence .0 ≡ other .sequence .0)
+unfolding messages machine-calls ledger-calls
+reach-2f+1 = (checked 1 isThree (start 1) split Run.starts-fresh refl, lit≤ tt, lit≤ tt, different, refl, refl)
+
+-- "start fresh": two machines that start with 2,000 in account 2, which the ledger never gave, make 1,500 to the ledger certain
+abbrev notFresh : Moment
+notFresh = record {
+  rules = start 1 .rules;
+  machines = funded .machines;
+  did = start 1 .did;
+  ledger-rules = start 1 .ledger-rules;
+  ledger = start 1 .ledger;
+  given = [];
+  paid = [];
+}
+
+pub start-fresh : Safe 1 isThree (bothVote notFresh cash) → ⊥
+unfolding messages machine-calls ledger-calls
+start-fresh safe = let z : 1_500 ≤ 0 = within isThree (bothVote notFresh cash) (bodyOf cash) safe (lit≤ tt) in omega arith
+
+-- "and change only by their calls": two machines vote for one payment, are put back to their bytes from before, and vote for the other
+abbrev putBack : Moment → Moment
+putBack w = record {
+  rules = w .rules;
+  machines = funded .machines;
+  did = w .did;
+  ledger-rules = w .ledger-rules;
+  ledger = w .ledger;
+  given = w .given;
+  paid = w .paid;
+}
+
+pub only-by-calls : Safe 1 isThree (bothVote (putBack (bothVote funded e1)) other) → ⊥
+unfolding messages machine-calls ledger-calls
+only-by-calls safe = different (safe .one-a-number (bodyOf e1) (bodyOf other) (lit≤ tt) (lit≤ tt) refl refl)
+
+-- "A good verdict on an honest machine's vote": where it may be false, the ledger pays what nobody voted for
+pub fair-votes : Safe 1 isThree (after funded (Call.redeem (certificateOf cash 0 1 2) allGood)) → ⊥
+unfolding messages machine-calls ledger-calls
+fair-votes safe = let z : 3 ≤ 1 = safe .paid-certain (bodyOf cash) (inl refl) .0 in omega arith
+
+-- "or on a funding order": where it may be false, 1,500 to the ledger is certain without any funding
+pub fair-funding : Safe 1 isThree (bothVote (reached (Call.fundingOrder 0 e2 good ∷ Call.fundingOrder 1 e2 good ∷ [])) cash) → ⊥
+unfolding messages machine-calls ledger-calls
+fair-funding safe =
+    let z : 1_500 ≤ 0 = within isThree (bothVote (reached (Call.fundingOrder 0 e2 good ∷ Call.fundingOrder 1 e2 good ∷ [])) cash) (bodyOf cash) safe (lit≤ tt) in
+    omega arith
