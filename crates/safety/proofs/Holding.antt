@@ -25,6 +25,7 @@ use Rattle.invariants.specs.Theorems.{base-lays, order-limited, certificate-lim
 use Rattle.ledger.specs.States as ledger
 use Rattle.ledger.specs.Calls as on-ledger
 use Rattle.bookkeeping.specs.Meaning as bookkeeping
+use Rattle.bookkeeping.specs.Keeping.{base-lays as base-books}
 use Rattle.safety.specs.Runs.{Call, Moment, acts, after}
 use Rattle.safety.proofs.Papers.{papers, world, shown}
 use Rattle.safety.proofs.Certificates.{Seats, Vouched, certified}
