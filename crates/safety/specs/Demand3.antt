@@ -1,10 +1,12 @@
 -- Demand 3: nobody can overspend, and the ledger can always pay. Said of the definitions that the contracts of `machine` and `ledger` cite.
 -- What stands in quotation marks is the demand's own sentence. A body and a funding order are their bytes; `payment` and `funding` are what
 -- they say.
--- Words from other pages. Of lists: `In b l` (b stands in l), `Distinct l` (nothing stands there twice), `sumOf g l` (g added up over l), `count p n` (how
--- many of 0 .. n - 1 pass the test p). Of what a machine did: `votes`, `debits`, `credits` and `fundings`, the bodies voted for, confirmed and
--- credited, and the funding orders taken. Of messages: `laid` (laid out as these fields), `inside m` (the body in m), `signersIn m` (the machines
--- of its votes), `judgedBy` (the judge of certificates, with verdicts).
+-- Words from other pages. Of lists: `In b l` (b stands in l) and `isIn same b l` (the same as a test), `Distinct l` (nothing stands there twice), `getD l i 0`
+-- (the one at place i), `sumOf g l` (g added up over l), `count p n` (how many of 0 .. n - 1 pass the test p); `only t a` is a where t holds, and
+-- otherwise 0; `subℕ a b` is a less b, with its sign. Of what a machine did: `votes`, `debits`, `credits` and `fundings`, the bodies voted
+-- for, confirmed and credited, and the funding orders taken. Of messages: `laid` (laid out as these fields), `inside m` (the body in m), `signersIn m`
+-- (the machines of its votes), `judgedBy` (the judge of certificates, with verdicts). Of states: `WellFormed`, `recordOf` (an account's record),
+-- `lastIndex` (the last funding index).
 use Prim.Native.Nat.{ℕ, _+_, _*_, _≤_, _<_}
 use mathlib.Core.Path.{_≡_}
 use mathlib.Core.Bool.{Bool, true, false, _&&_, not}
