@@ -1,14 +1,14 @@
--- Refusals 1 to 7 and 9 to 14, and *already*, are needed: without any one of them fair calls break a promise of demand 3, with one machine in four
--- dishonest. (8 follows from 11; 15 and 16 are never answered in a run; 17 and 18 are the ledger's own.) Assumes nothing.
+-- What each answer of 01 keeps out: for refusals 1 to 14 and *already* fair calls that it answers and that, done all the same, break a promise of demand 3.
+-- (15 and 16 are never answered in a run; 17 and 18 are answers to fund.) Assumes nothing.
 use Prim.Native.Nat.{ℕ, _+_, _≤_}
-use mathlib.Core.Path.{_≡_, refl, ap}
-use mathlib.Core.Bool.{Bool, true, false, _&&_, not}
+use mathlib.Core.Path.{_≡_, refl, sym, ap, subst, _∙_}
+use mathlib.Core.Bool.{Bool, true, false, _&&_, not, false≢true}
 use mathlib.Core.List.{List, [], _∷_, _++_}
 use mathlib.Core.Logic.{inl, inr}
 use native.Mathlib.Omega.{arith}
 use lib.ListN.{replicate}
 use lib.Dec.{eqb, lit≤}
-use borrow.Author.Tests.{eqb-true}
+use borrow.Author.Tests.{eqb-true, eq-eqb, not-true}
 use Rattle.model.specs.Lists.{In, isIn}
 use Rattle.model.specs.Histories.{Event, votes}
 use Rattle.model.specs.Quorums.{count}
@@ -24,9 +24,9 @@ use Rattle.safety.specs.Runs.{Call, Moment, start, answer, after}
 use Rattle.safety.specs.Demand3.{takes, brings, Safe}
 use Rattle.safety.proofs.Papers.{same-is, is-same}
 use Rattle.evidence.specs.Example.{isThree, e2, signature, bodyOf, orderOf, certificateOf, good, allGood}
-use Rattle.evidence.specs.Without.{anyway, Without, Step, afterSteps, Needed}
-use Rattle.evidence.proofs.Checking.{isFair, fair-call, messages, machine-calls, ledger-calls}
-use Rattle.evidence.proofs.Premises.{within}
+use Rattle.evidence.specs.Without.{anyway, Without, Step, afterSteps, Guards}
+use Rattle.evidence.proofs.Checking.{areFairVotes, isFair, fair-call, messages, machine-calls, ledger-calls}
+use Rattle.evidence.proofs.Premises.{within, unpayable}
 
 -- ---- such runs by computing
 
@@ -34,10 +34,10 @@ use Rattle.evidence.proofs.Premises.{within}
 abbrev isSame : Said → Said → Bool
 isSame a b = eqb (a .number) (b .number) && same (a .values) (b .values)
 
--- each step is fair, and what is done anyway is answered so
+-- each step is fair, and those that are done anyway are those that are answered so
 abbrev areWithout : Said → Moment → List Step → Bool
 areWithout said w [] = true
-areWithout said w (Step.made call ∷ steps) = isFair 1 isThree w call && areWithout said (after w call) steps
+areWithout said w (Step.made call ∷ steps) = isFair 1 isThree w call && (not (isSame (answer w call) said) && areWithout said (after w call) steps)
 areWithout said w (Step.forced call ∷ steps) = isFair 1 isThree w call && (isSame (answer w call) said && areWithout said (anyway w call) steps)
 
 is-said : (a b : Said) → isSame a b ≡ true → a ≡ b
@@ -47,25 +47,25 @@ is-said a b h =
     let v = same-is (a .values) (b .values) (t .1) in
     λ i. record { number = n i; values = v i }
 
+said-is : (a b : Said) → isSame a b ≡ false → a ≡ b → ⊥
+said-is a b h e = false≢true (sym h ∙ rw (e, eq-eqb (b .number) (b .number) refl, is-same (b .values)))
+
 checked : (said : Said) (w : Moment) (steps : List Step) → Without said isThree w → areWithout said w steps ≡ true → Without said isThree (afterSteps w steps)
 checked said w [] run h = run
 checked said w (Step.made call ∷ steps) run h =
     let t = both (isFair 1 isThree w call) _ h in
     let c = fair-call 1 isThree w call (t .0) in
-    checked said (after w call) steps (Without.changes-by-call run call (c .0) (c .1)) (t .1)
+    let u = both (not (isSame (answer w call) said)) _ (t .1) in
+    checked said (after w call) steps (Without.changes-by-call run call (c .0) (c .1) (said-is _ _ (not-true _ (u .0)))) (u .1)
 checked said w (Step.forced call ∷ steps) run h =
     let t = both (isFair 1 isThree w call) _ h in
     let c = fair-call 1 isThree w call (t .0) in
     let u = both (isSame (answer w call) said) _ (t .1) in
     checked said (anyway w call) steps (Without.leaves-out run call (c .0) (c .1) (is-said _ _ (u .0))) (u .1)
 
--- so the answer is needed where the steps pass the test and a promise is broken
-needed : (said : Said) (steps : List Step) → areWithout said (start 1) steps ≡ true → (Safe 1 isThree (afterSteps (start 1) steps) → ⊥) → Needed said isThree steps
-needed said steps h broken = record { run = checked said (start 1) steps Without.starts-fresh h; broken = broken }
-
--- two votes are not three
-too-few : 3 ≤ 2 → ⊥
-too-few h = omega arith
+-- so the answer guards where the steps pass the test and a promise is broken
+guards : (said : Said) (steps : List Step) → areWithout said (start 1) steps ≡ true → (Safe 1 isThree (afterSteps (start 1) steps) → ⊥) → Guards said isThree steps
+guards said steps h broken = record { few = lit≤ tt; run = checked said (start 1) steps Without.starts-fresh h; broken = broken }
 
 -- ---- payments
 
@@ -105,63 +105,87 @@ votes-for k p = Call.order k (orderOf p) good
 abbrev confirms : ℕ → Payment → Call
 confirms k p = Call.certificate k (certificateOf p 0 1 3) allGood
 
--- ---- certificates that say less than they should: the ledger pays what is not certain
+-- ---- certificates that say less than they should: the ledger pays 1,000 that is not certain, and then not 2,000 that are, under the same number
+
+abbrev all : Payment
+all = pays 2 1 9 2_000 0
+
+not-cash : bodyOf all ≡ bodyOf cash → ⊥
+unfolding messages
+not-cash e = let z : _≡_ {A = ℕ} 2_000 1_000 = ap (λ b. payment b .amount) e in omega arith
 
 abbrev paysFor : List ℕ → List ℕ → List Step
-paysFor m verdicts = funded ++ Step.made (votes-for 0 cash) ∷ Step.forced (Call.redeem m verdicts) ∷ []
+paysFor m verdicts =
+    funded ++ Step.made (votes-for 0 cash) ∷ Step.forced (Call.redeem m verdicts) ∷ Step.made (votes-for 1 all) ∷ Step.made (votes-for 2 all) ∷ []
 
--- 1: a byte behind the last vote, so that it is no certificate
-pub refusal-1 : Needed (refuses 1) isThree (paysFor (certificateOf cash 0 1 2 ++ 0 ∷ []) allGood)
+-- where only that was paid, and the good certificate for all of it is answered with 14
+unpaid : (w : Moment) → areFairVotes 1 isThree w (certificateOf all 1 2 3) allGood ≡ true → w .paid ≡ bodyOf cash ∷ []
+    → answer w (Call.redeem (certificateOf all 1 2 3) allGood) .number ≡ 14 → Safe 1 isThree w → ⊥
+unfolding messages
+unpaid w fair paid refused =
+    unpayable w (certificateOf all 1 2 3) allGood 13 refl fair refl
+    (λ i. elim (subst (λ (l : List (List ℕ)). In (bodyOf all) l) paid i) [ inl e ↦ not-cash e | inr j ↦ j ]) refused
+
+-- 1: a byte behind the last vote, so that it is no certificate and its verdicts say nothing
+pub refusal-1 : Guards (refuses 1) isThree (paysFor (certificateOf cash 0 1 2 ++ 0 ∷ []) allGood)
 unfolding messages machine-calls ledger-calls
-refusal-1 = needed _ _ refl (λ safe. too-few (safe .paid-certain (bodyOf cash) (inl refl) .0))
+refusal-1 = guards _ _ refl (unpaid (afterSteps (start 1) (paysFor (certificateOf cash 0 1 2 ++ 0 ∷ []) allGood)) refl refl refl)
 
 -- 3: no verdicts
-pub refusal-3 : Needed (refuses 3) isThree (paysFor (certificateOf cash 0 1 2) [])
+pub refusal-3 : Guards (refuses 3) isThree (paysFor (certificateOf cash 0 1 2) [])
 unfolding messages machine-calls ledger-calls
-refusal-3 = needed _ _ refl (λ safe. too-few (safe .paid-certain (bodyOf cash) (inl refl) .0))
+refusal-3 = guards _ _ refl (unpaid (afterSteps (start 1) (paysFor (certificateOf cash 0 1 2) [])) refl refl refl)
 
 -- 4: bad verdicts on two votes
-pub refusal-4 : Needed (refuses 4) isThree (paysFor (certificateOf cash 0 1 2) (1 ∷ 0 ∷ 0 ∷ []))
+pub refusal-4 : Guards (refuses 4) isThree (paysFor (certificateOf cash 0 1 2) (1 ∷ 0 ∷ 0 ∷ []))
 unfolding messages machine-calls ledger-calls
-refusal-4 = needed _ _ refl (λ safe. too-few (safe .paid-certain (bodyOf cash) (inl refl) .0))
+refusal-4 = guards _ _ refl (unpaid (afterSteps (start 1) (paysFor (certificateOf cash 0 1 2) (1 ∷ 0 ∷ 0 ∷ []))) refl refl refl)
 
 -- 5: votes of machines 4 and 5, which there are not
-pub refusal-5 : Needed (refuses 5) isThree (paysFor (certificateOf cash 0 4 5) allGood)
+pub refusal-5 : Guards (refuses 5) isThree (paysFor (certificateOf cash 0 4 5) allGood)
 unfolding messages machine-calls ledger-calls
-refusal-5 = needed _ _ refl (λ safe. too-few (safe .paid-certain (bodyOf cash) (inl refl) .0))
+refusal-5 = guards _ _ refl (unpaid (afterSteps (start 1) (paysFor (certificateOf cash 0 4 5) allGood)) refl refl refl)
 
 -- 6: machine 0's vote three times
-pub refusal-6 : Needed (refuses 6) isThree (paysFor (certificateOf cash 0 0 0) allGood)
+pub refusal-6 : Guards (refuses 6) isThree (paysFor (certificateOf cash 0 0 0) allGood)
 unfolding messages machine-calls ledger-calls
-refusal-6 = needed _ _ refl (λ safe. too-few (safe .paid-certain (bodyOf cash) (inl refl) .0))
+refusal-6 = guards _ _ refl (unpaid (afterSteps (start 1) (paysFor (certificateOf cash 0 0 0) allGood)) refl refl refl)
 
 -- 7: machine 0's vote alone
-pub refusal-7 : Needed (refuses 7) isThree (paysFor (certificateBytes (bodyOf cash) (0 ∷ signature)) good)
+pub refusal-7 : Guards (refuses 7) isThree (paysFor (certificateBytes (bodyOf cash) (0 ∷ signature)) good)
 unfolding messages machine-calls ledger-calls
-refusal-7 = needed _ _ refl (λ safe. too-few (safe .paid-certain (bodyOf cash) (inl refl) .0))
+refusal-7 = guards _ _ refl (unpaid (afterSteps (start 1) (paysFor (certificateBytes (bodyOf cash) (0 ∷ signature)) good)) refl refl refl)
 
 -- ---- orders
 
+-- 8: two machines that know of no funding vote for 1,000
+abbrev steps-8 : List Step
+steps-8 = Step.forced (votes-for 0 cash) ∷ Step.forced (votes-for 1 cash) ∷ []
+
+pub refusal-8 : Guards (refuses 8) isThree steps-8
+unfolding messages machine-calls ledger-calls
+refusal-8 = guards _ _ refl (λ safe. let z : 1_000 ≤ 0 = within isThree (afterSteps (start 1) steps-8) (bodyOf cash) safe (lit≤ tt) in omega arith)
+
 -- 9: machine 0 votes for a second body while the first is pending. Machines 0, 1 and 3 count for one, 0, 2 and 3 for the other
-pub refusal-9 : Needed (refuses 9) isThree
+pub refusal-9 : Guards (refuses 9) isThree
     (funded ++ Step.made (votes-for 0 one) ∷ Step.made (votes-for 1 one) ∷ Step.made (votes-for 2 two) ∷ Step.forced (votes-for 0 two) ∷ [])
 unfolding messages machine-calls ledger-calls
-refusal-9 = needed _ _ refl (λ safe. different (safe .one-a-number (bodyOf one) (bodyOf two) (lit≤ tt) (lit≤ tt) refl refl))
+refusal-9 = guards _ _ refl (λ safe. different (safe .one-a-number (bodyOf one) (bodyOf two) (lit≤ tt) (lit≤ tt) refl refl))
 
 -- 10 of an order: it votes under the number of a payment that is confirmed there
-pub refusal-10 : Needed (refuses 10) isThree
+pub refusal-10 : Guards (refuses 10) isThree
     (funded ++ Step.made (votes-for 0 one) ∷ Step.made (votes-for 1 one) ∷ Step.made (confirms 0 one) ∷ Step.made (votes-for 2 two)
     ∷ Step.forced (votes-for 0 two) ∷ [])
 unfolding messages machine-calls ledger-calls
-refusal-10 = needed _ _ refl (λ safe. different (safe .one-a-number (bodyOf one) (bodyOf two) (lit≤ tt) (lit≤ tt) refl refl))
+refusal-10 = guards _ _ refl (λ safe. different (safe .one-a-number (bodyOf one) (bodyOf two) (lit≤ tt) (lit≤ tt) refl refl))
 
 -- 11: two machines vote for 3,000 where 2,000 were funded
 abbrev steps-11 : List Step
 steps-11 = funded ++ Step.forced (votes-for 0 tooMuch) ∷ Step.forced (votes-for 1 tooMuch) ∷ []
 
-pub refusal-11 : Needed (refuses 11) isThree steps-11
+pub refusal-11 : Guards (refuses 11) isThree steps-11
 unfolding messages machine-calls ledger-calls
-refusal-11 = needed _ _ refl (λ safe. let z : 3_000 ≤ 2_000 = within isThree (afterSteps (start 1) steps-11) (bodyOf tooMuch) safe (lit≤ tt) in omega arith)
+refusal-11 = guards _ _ refl (λ safe. let z : 3_000 ≤ 2_000 = within isThree (afterSteps (start 1) steps-11) (bodyOf tooMuch) safe (lit≤ tt) in omega arith)
 
 -- 12: two machines take the funding order twice
 abbrev steps-12 : List Step
@@ -169,24 +193,39 @@ steps-12 =
     funded ++ Step.forced (Call.fundingOrder 0 e2 good) ∷ Step.forced (Call.fundingOrder 1 e2 good)
     ∷ Step.made (votes-for 0 tooMuch) ∷ Step.made (votes-for 1 tooMuch) ∷ []
 
-pub refusal-12 : Needed (refuses 12) isThree steps-12
+pub refusal-12 : Guards (refuses 12) isThree steps-12
 unfolding messages machine-calls ledger-calls
-refusal-12 = needed _ _ refl (λ safe. let z : 3_000 ≤ 2_000 = within isThree (afterSteps (start 1) steps-12) (bodyOf tooMuch) safe (lit≤ tt) in omega arith)
+refusal-12 = guards _ _ refl (λ safe. let z : 3_000 ≤ 2_000 = within isThree (afterSteps (start 1) steps-12) (bodyOf tooMuch) safe (lit≤ tt) in omega arith)
 
 -- ---- redeeming
 
--- 13: a payment to an account is paid by the ledger
-pub refusal-13 : Needed (refuses 13) isThree
-    (funded ++ Step.made (votes-for 0 one) ∷ Step.made (votes-for 1 one) ∷ Step.forced (Call.redeem (certificateOf one 0 1 3) allGood) ∷ [])
+-- 13: a payment of 2,000 to account 7 is paid by the ledger, and then account 7's 2,000 to the ledger is answered with 15
+abbrev moved : Payment
+moved = pays 2 0 7 2_000 0
+
+abbrev on : Payment
+on = pays 7 1 9 2_000 0
+
+abbrev steps-13 : List Step
+steps-13 =
+    funded ++ Step.made (votes-for 0 moved) ∷ Step.made (votes-for 1 moved) ∷ Step.made (confirms 0 moved) ∷ Step.made (confirms 1 moved)
+    ∷ Step.forced (Call.redeem (certificateOf moved 0 1 3) allGood) ∷ Step.made (votes-for 0 on) ∷ Step.made (votes-for 1 on) ∷ []
+
+not-moved : bodyOf on ≡ bodyOf moved → ⊥
+unfolding messages
+not-moved e = let z : _≡_ {A = ℕ} 1 0 = ap (λ b. payment b .kind) e in omega arith
+
+pub refusal-13 : Guards (refuses 13) isThree steps-13
 unfolding messages machine-calls ledger-calls
-refusal-13 = needed _ _ refl (λ safe. let z : _≡_ {A = ℕ} 0 1 = safe .paid-certain (bodyOf one) (inl refl) .1 in omega arith)
+refusal-13 =
+    guards _ _ refl (unpayable (afterSteps (start 1) steps-13) (certificateOf on 0 1 3) allGood 14 refl refl refl (elim [ inl e ↦ not-moved e | inr i ↦ i ]) refl)
 
 -- 14: a payment is paid twice
-pub refusal-14 : Needed (refuses 14) isThree
+pub refusal-14 : Guards (refuses 14) isThree
     (funded ++ Step.made (votes-for 0 cash) ∷ Step.made (votes-for 1 cash) ∷ Step.made (Call.redeem (certificateOf cash 0 1 3) allGood)
     ∷ Step.forced (Call.redeem (certificateOf cash 0 1 3) allGood) ∷ [])
 unfolding messages machine-calls ledger-calls
-refusal-14 = needed _ _ refl (λ safe. safe .paid-once .0 (inl refl))
+refusal-14 = guards _ _ refl (λ safe. safe .paid-once .0 (inl refl))
 
 -- ---- certificates on a machine
 
@@ -200,9 +239,9 @@ steps-already =
     ∷ Step.forced (confirms 0 large) ∷ Step.forced (confirms 1 large)
     ∷ Step.made (votes-for 0 (pays 7 1 9 3_000 0)) ∷ Step.made (votes-for 1 (pays 7 1 9 3_000 0)) ∷ []
 
-pub already-needed : Needed (already 3) isThree steps-already
+pub already-answered : Guards (already 3) isThree steps-already
 unfolding messages machine-calls ledger-calls
-already-needed = needed _ _ refl (λ safe. let z : 3_000 ≤ 2_000 = within isThree (afterSteps (start 1) steps-already) (bodyOf (pays 7 1 9 3_000 0)) safe (lit≤ tt) in omega arith)
+already-answered = guards _ _ refl (λ safe. let z : 3_000 ≤ 2_000 = within isThree (afterSteps (start 1) steps-already) (bodyOf (pays 7 1 9 3_000 0)) safe (lit≤ tt) in omega arith)
 
 -- 10 of a certificate: one that comes ahead of its turn is confirmed, and then, in what is now its turn, once more. Account 2 pays account 7 1 and then 900
 -- by the votes of 1, 2 and 3, account 3 the same by those of 0, 2 and 3; the second payment of each comes early and twice to the machine that did not vote.
@@ -238,9 +277,9 @@ steps-early =
     ++ earlyTwice 0 1 (from-2 900 1) ++ earlyTwice 1 0 (from-3 900 1)
     ++ Step.made (votes-for 0 (pays 7 1 9 2_701 0)) ∷ Step.made (votes-for 1 (pays 7 1 9 2_701 0)) ∷ []
 
-pub refusal-10-early : Needed (refuses 10) isThree steps-early
+pub refusal-10-early : Guards (refuses 10) isThree steps-early
 unfolding messages machine-calls ledger-calls
-refusal-10-early = needed _ _ refl (λ safe. let z : 2_701 ≤ 2_000 = within isThree (afterSteps (start 1) steps-early) (bodyOf (pays 7 1 9 2_701 0)) safe (lit≤ tt) in omega arith)
+refusal-10-early = guards _ _ refl (λ safe. let z : 2_701 ≤ 2_000 = within isThree (afterSteps (start 1) steps-early) (bodyOf (pays 7 1 9 2_701 0)) safe (lit≤ tt) in omega arith)
 
 -- ---- values
 
@@ -273,10 +312,10 @@ nothing-brought b (inl e) = rw e refl
 nothing-brought b (inr (inl e)) = rw e refl
 nothing-brought b (inr (inr i)) = absurd i
 
-pub refusal-2 : Needed (refuses 2) isThree steps-2
+pub refusal-2 : Guards (refuses 2) isThree steps-2
 unfolding messages machine-calls ledger-calls
 refusal-2 =
-    needed _ _ refl (λ safe.
+    guards _ _ refl (λ safe.
     let none = sum-zero (brings 7) (safe .certains) (λ b i.
     nothing-brought b (counted (afterSteps (start 1) steps-2 .did) b (bodyOf payout ∷ bodyOf ofKind2 ∷ []) refl refl refl (safe .only-certain b i))) in
     let some : 1_500 ≤ _ = sum-in (takes 7) (safe .certains) (bodyOf payout) (safe .all-certain (bodyOf payout) (lit≤ tt)) in

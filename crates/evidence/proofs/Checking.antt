@@ -78,7 +78,7 @@ module _ (f : ℕ) (dishonest : ℕ → Bool) where
   given-votes w body (k ∷ ks) (v ∷ vs) h (suc i) l e honest = given-votes w body ks vs (both (isGiven w body k v) (areGiven w body ks vs) h .1) i (omega arith) e honest
 
   -- the tests for verdicts say that they are fair
-  fair-votes : (w : Moment) (m verdicts : List ℕ) → areFairVotes w m verdicts ≡ true → FairVotes f dishonest w m verdicts
+  pub fair-votes : (w : Moment) (m verdicts : List ℕ) → areFairVotes w m verdicts ≡ true → FairVotes f dishonest w m verdicts
   fair-votes w m verdicts h l n i k = given-votes w (inside m) (signersIn m) verdicts (rw (l, eq-eqb _ _ n) at h) i (omega arith)
 
   fair-funding : (w : Moment) (m verdicts : List ℕ) → isFairFunding w m verdicts ≡ true → FairFunding f dishonest w m verdicts

@@ -1,23 +1,24 @@
--- No premise of demand 3 can be dropped, and *certain* cannot ask for less: for each, what breaks a promise without it. Assumes nothing.
-use Prim.Native.Nat.{ℕ, _+_, _*_, _≤_}
-use mathlib.Core.Path.{_≡_, refl, ap}
-use mathlib.Core.Bool.{Bool, not, _&&_}
+-- Five premises of demand 3 and the number 2f + 1 in *certain*: for each, what breaks a promise without it. Assumes nothing.
+use Prim.Native.Nat.{ℕ, suc, _+_, _*_, _≤_}
+use mathlib.Core.Path.{_≡_, refl, sym, ap, _∙_}
+use mathlib.Core.Bool.{Bool, true, not, _&&_}
 use mathlib.Core.List.{List, [], _∷_}
-use mathlib.Core.Logic.{inl}
+use mathlib.Core.Logic.{inl, inr}
 use native.Mathlib.Omega.{arith}
 use lib.ListN.{replicate}
 use lib.Dec.{leb, lit≤}
-use Rattle.model.specs.Lists.{isIn, sumOf}
+use Rattle.model.specs.Lists.{In, isIn, sumOf}
 use Rattle.model.specs.Quorums.{count}
 use Rattle.model.specs.Histories.{votes}
 use Rattle.model.proofs.SumLaws.{sum-in}
 use Rattle.octets.specs.Octets.{same}
-use Rattle.wire.specs.Messages.{payment}
+use Rattle.wire.specs.Messages.{payment, inside}
+use Rattle.wire.specs.Refusals.{Said}
 use Rattle.wire.specs.declared.kinds.Payment.{Payment}
-use Rattle.safety.specs.Runs.{Call, Moment, start, after}
-use Rattle.safety.specs.Demand3.{toLedger, amountOf, Run, Certain, Safe}
+use Rattle.safety.specs.Runs.{Call, Moment, start, answer, after}
+use Rattle.safety.specs.Demand3.{toLedger, amountOf, Run, Certain, Good, Safe}
 use Rattle.evidence.specs.Example.{afterAll, isThree, e1, e2, bodyOf, orderOf, certificateOf, good, allGood, reached}
-use Rattle.evidence.proofs.Checking.{checked, messages, machine-calls, ledger-calls}
+use Rattle.evidence.proofs.Checking.{areFairVotes, fair-votes, checked, messages, machine-calls, ledger-calls}
 
 -- another payment under E1's number: account 2 pays account 7 1,600
 abbrev other : Payment
@@ -102,14 +103,31 @@ pub only-by-calls : Safe 1 isThree (bothVote (putBack (bothVote funded e1)) othe
 unfolding messages machine-calls ledger-calls
 only-by-calls safe = different (safe .one-a-number (bodyOf e1) (bodyOf other) (lit≤ tt) (lit≤ tt) refl refl)
 
--- "A good verdict on an honest machine's vote": where it may be false, the ledger pays what nobody voted for
-pub fair-votes : Safe 1 isThree (after funded (Call.redeem (certificateOf cash 0 1 2) allGood)) → ⊥
+-- a good certificate to the ledger with fair verdicts that is not paid, though its body was not paid before
+pub unpayable : (w : Moment) (m verdicts : List ℕ) (n : ℕ) → Good 1 isThree m verdicts → areFairVotes 1 isThree w m verdicts ≡ true → payment (inside m) .kind ≡ 1
+    → (In (inside m) (w .paid) → ⊥) → answer w (Call.redeem m verdicts) .number ≡ suc n → Safe 1 isThree w → ⊥
+unpayable w m verdicts n good fair kind unpaid refused safe =
+    let z : _≡_ {A = ℕ} (suc n) 0 = sym refused ∙ ap (λ (s : Said). s .number) (safe .payable m verdicts good (fair-votes 1 isThree w m verdicts fair) kind unpaid) in
+    omega arith
+
+-- "A good verdict on an honest machine's vote": where it may be false, the ledger pays 1,500 that nobody voted for, and account 2's 2,000 is no longer paid
+abbrev allOfIt : Payment
+allOfIt = record { sender = record { 0 = 2 }; kind = 1; recipient = 9; amount = 2_000; sequence = record { 0 = 0 } }
+
+-- the two bodies are different
+not-that : bodyOf allOfIt ≡ bodyOf cash → ⊥
+unfolding messages
+not-that e = let z : _≡_ {A = ℕ} 2_000 1_500 = ap (λ b. payment b .amount) e in omega arith
+
+pub true-votes : Safe 1 isThree (bothVote (after funded (Call.redeem (certificateOf cash 0 1 2) allGood)) allOfIt) → ⊥
 unfolding messages machine-calls ledger-calls
-fair-votes safe = let z : 3 ≤ 1 = safe .paid-certain (bodyOf cash) (inl refl) .0 in omega arith
+true-votes =
+    unpayable (bothVote (after funded (Call.redeem (certificateOf cash 0 1 2) allGood)) allOfIt) (certificateOf allOfIt 0 1 3) allGood 13 refl refl refl
+    (elim [ inl e ↦ not-that e | inr i ↦ i ]) refl
 
 -- "or on a funding order": where it may be false, 1,500 to the ledger is certain without any funding
-pub fair-funding : Safe 1 isThree (bothVote (reached (Call.fundingOrder 0 e2 good ∷ Call.fundingOrder 1 e2 good ∷ [])) cash) → ⊥
+pub true-funding : Safe 1 isThree (bothVote (reached (Call.fundingOrder 0 e2 good ∷ Call.fundingOrder 1 e2 good ∷ [])) cash) → ⊥
 unfolding messages machine-calls ledger-calls
-fair-funding safe =
+true-funding safe =
     let z : 1_500 ≤ 0 = within isThree (bothVote (reached (Call.fundingOrder 0 e2 good ∷ Call.fundingOrder 1 e2 good ∷ [])) cash) (bodyOf cash) safe (lit≤ tt) in
     omega arith

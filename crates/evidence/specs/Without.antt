@@ -1,4 +1,4 @@
--- Runs in which machines and ledger leave out one answer of 01, and do what was asked where it is due.
+-- Runs in which machines and ledger do what was asked where 01 has one certain answer: the whole effect of the call, with no later test.
 use Prim.Native.Nat.{ℕ}
 use mathlib.Core.Path.{_≡_}
 use mathlib.Core.Bool.{Bool, cond}
@@ -10,9 +10,9 @@ use Rattle.wire.specs.Refusals.{Said}
 use Rattle.invariants.specs.Outcomes.{afterVote, afterPaid, afterMoved, afterFunding}
 use Rattle.bookkeeping.specs.Outcomes.{afterPay}
 use Rattle.safety.specs.Runs.{Call, Moment, start, answer, acts, keepsBooks, after}
-use Rattle.safety.specs.Demand3.{OnHonest, Fair, Safe}
+use Rattle.safety.specs.Demand3.{AtMostF, OnHonest, Fair, Safe}
 
--- the call done, whatever its answer is: the vote given, the payment confirmed and credited, the funding order taken, the body paid
+-- the call done, whatever its answer is: the vote given, the payment confirmed and credited, the funding order taken, the body paid. (Fund is left alone)
 abbrev pub anyway : Moment → Call → Moment
 anyway w (Call.order k m verdicts) = acts w k (afterVote (w .rules k) (w .machines k) (inside m)) (Event.voted (inside m) ∷ w .did k)
 anyway w (Call.certificate k m verdicts) =
@@ -23,10 +23,12 @@ anyway w (Call.fundingOrder k m verdicts) = acts w k (afterFunding (w .rules k) 
 anyway w (Call.fund out account amount) = w
 anyway w (Call.redeem m verdicts) = keepsBooks w (afterPay (w .ledger-rules) (w .ledger) (payment (inside m))) (w .given) (inside m ∷ w .paid)
 
--- a run of four machines without an answer: fair calls on honest machines and on the ledger, and those that would be answered so are done all the same
+-- a run of four machines without an answer: fair calls on honest machines and on the ledger, of which those that would be answered so are done all
+-- the same
 pub data Without (said : Said) (dishonest : ℕ → Bool) : Moment → Type 0 where
   starts-fresh : Without said dishonest (start 1)
-  changes-by-call : {w : Moment} → Without said dishonest w → (call : Call) → OnHonest 1 dishonest call → Fair 1 dishonest w call → Without said dishonest (after w call)
+  changes-by-call : {w : Moment} → Without said dishonest w → (call : Call) → OnHonest 1 dishonest call → Fair 1 dishonest w call → (answer w call ≡ said → ⊥)
+      → Without said dishonest (after w call)
   leaves-out : {w : Moment} → Without said dishonest w → (call : Call) → OnHonest 1 dishonest call → Fair 1 dishonest w call → answer w call ≡ said
       → Without said dishonest (anyway w call)
 
@@ -41,7 +43,9 @@ afterSteps w [] = w
 afterSteps w (Step.made call ∷ steps) = afterSteps (after w call) steps
 afterSteps w (Step.forced call ∷ steps) = afterSteps (anyway w call) steps
 
--- the answer is needed: without it these steps are such a run, with one machine dishonest, and break a promise of demand 3
-pub record Needed (said : Said) (dishonest : ℕ → Bool) (steps : List Step) : Type 0 where
+-- the answer stands between fair calls and a broken promise: with at most one machine dishonest, these steps are such a run, and break a promise of
+-- demand 3
+pub record Guards (said : Said) (dishonest : ℕ → Bool) (steps : List Step) : Type 0 where
+  pub few : AtMostF 1 dishonest
   pub run : Without said dishonest (afterSteps (start 1) steps)
   pub broken : Safe 1 dishonest (afterSteps (start 1) steps) → ⊥

@@ -115,6 +115,8 @@ module _ (f : ℕ) (dishonest : ℕ → Bool) (few : AtMostF f dishonest) (w : M
 
   kept : Kept f dishonest w
   kept = record {
+    machines-rules = λ k honest. own k honest .in-force;
+    ledger-rules = h .in-force;
     machines-formed = λ k honest. own k honest .limited .formed;
     ledger-formed = h .books .balanced .state;
     unlimited = never-16;

@@ -69,7 +69,8 @@ module _ (f : ℕ) (dishonest : ℕ → Bool) where
   OnHonest (Call.fund out account amount) = Unit
   OnHonest (Call.redeem m verdicts) = Unit
 
-  -- "A good verdict on an honest machine's vote [..] means that machine [..] really gave that one": of each vote of a certificate
+  -- "A good verdict on an honest machine's vote [..] means that machine [..] really gave that one": of each vote of a certificate that comes with
+  -- as many verdicts as votes
   abbrev pub FairVotes : Moment → List ℕ → List ℕ → Type 0
   FairVotes w m verdicts = laid m certificateFields ≡ true → length verdicts ≡ length (signersIn m) → (i : ℕ) → i < length verdicts → getD verdicts i 0 ≡ 1
       → (let k = getD (signersIn m) i 0 in Honest k → In (inside m) (votes (w .did k)))
@@ -105,7 +106,7 @@ module _ (f : ℕ) (dishonest : ℕ → Bool) where
     pub each-once : Distinct certains
     pub only-certain : (b : List ℕ) → In b certains → Certain w b
     pub all-certain : (b : List ℕ) → Certain w b → In b certains
-    -- a good certificate makes its payment certain
+    -- a good certificate with fair verdicts makes its payment certain
     pub good-certain : (m verdicts : List ℕ) → Good m verdicts → FairVotes w m verdicts → Certain w (inside m)
     -- "no account has two certain payments under one sequence number"
     pub one-a-number : (b c : List ℕ) → Certain w b → Certain w c → payment b .sender .0 ≡ payment c .sender .0
@@ -126,10 +127,12 @@ module _ (f : ℕ) (dishonest : ℕ → Bool) where
 
   -- what the bytes show besides
   pub record Kept (w : Moment) : Type 0 where
-    -- every state is well formed
+    -- the rules in force are those of 01, and every state is well formed
+    pub machines-rules : (k : ℕ) → Honest k → w .rules k ≡ machine.base
+    pub ledger-rules : w .ledger-rules ≡ ledger.base
     pub machines-formed : (k : ℕ) → Honest k → WellFormed (w .rules k) (w .machines k)
     pub ledger-formed : ledger.isState (w .ledger-rules) (w .ledger) ≡ true
-    -- no call meets a limit on balance or pot
+    -- no call is answered with 16, so none meets a limit on balance or pot
     pub unlimited : (call : Call) → OnHonest call → answer w call .number ≡ 16 → ⊥
     -- "A certificate must count when it comes, even if a balance dips below zero until the credit arrives": in its turn a good one is confirmed
     pub counts : (k : ℕ) → Honest k → (m verdicts : List ℕ) → Good m verdicts
