@@ -40,6 +40,7 @@ areWithout said w [] = true
 areWithout said w (Step.made call ∷ steps) = isFair 1 isThree w call && (not (isSame (answer w call) said) && areWithout said (after w call) steps)
 areWithout said w (Step.forced call ∷ steps) = isFair 1 isThree w call && (isSame (answer w call) said && areWithout said (anyway w call) steps)
 
+-- the test says whether they are equal
 is-said : (a b : Said) → isSame a b ≡ true → a ≡ b
 is-said a b h =
     let t = both (eqb (a .number) (b .number)) (same (a .values) (b .values)) h in
@@ -50,6 +51,7 @@ is-said a b h =
 said-is : (a b : Said) → isSame a b ≡ false → a ≡ b → ⊥
 said-is a b h e = false≢true (sym h ∙ rw (e, eq-eqb (b .number) (b .number) refl, is-same (b .values)))
 
+-- steps that pass the test extend a run without the answer
 checked : (said : Said) (w : Moment) (steps : List Step) → Without said isThree w → areWithout said w steps ≡ true → Without said isThree (afterSteps w steps)
 checked said w [] run h = run
 checked said w (Step.made call ∷ steps) run h =
@@ -81,6 +83,7 @@ one = pays 2 0 7 500 0
 abbrev two : Payment
 two = pays 2 0 7 400 0
 
+-- the two bodies are different
 different : bodyOf one ≡ bodyOf two → ⊥
 unfolding messages
 different e = let z : _≡_ {A = ℕ} 500 400 = ap (λ b. payment b .amount) e in omega arith
@@ -98,7 +101,7 @@ funded =
     Step.made (Call.fund (replicate 16 0) 2 2_000)
     ∷ Step.made (Call.fundingOrder 0 e2 good) ∷ Step.made (Call.fundingOrder 1 e2 good) ∷ Step.made (Call.fundingOrder 2 e2 good) ∷ []
 
--- a machine is asked for its vote; a certificate comes to it, with three votes; the ledger is asked to pay one
+-- a machine is asked for its vote; a certificate comes to it, with the votes of 0, 1 and 3
 abbrev votes-for : ℕ → Payment → Call
 votes-for k p = Call.order k (orderOf p) good
 
@@ -110,6 +113,7 @@ confirms k p = Call.certificate k (certificateOf p 0 1 3) allGood
 abbrev all : Payment
 all = pays 2 1 9 2_000 0
 
+-- the two bodies are different
 not-cash : bodyOf all ≡ bodyOf cash → ⊥
 unfolding messages
 not-cash e = let z : _≡_ {A = ℕ} 2_000 1_000 = ap (λ b. payment b .amount) e in omega arith
@@ -211,6 +215,7 @@ steps-13 =
     funded ++ Step.made (votes-for 0 moved) ∷ Step.made (votes-for 1 moved) ∷ Step.made (confirms 0 moved) ∷ Step.made (confirms 1 moved)
     ∷ Step.forced (Call.redeem (certificateOf moved 0 1 3) allGood) ∷ Step.made (votes-for 0 on) ∷ Step.made (votes-for 1 on) ∷ []
 
+-- the two bodies are different
 not-moved : bodyOf on ≡ bodyOf moved → ⊥
 unfolding messages
 not-moved e = let z : _≡_ {A = ℕ} 1 0 = ap (λ b. payment b .kind) e in omega arith
