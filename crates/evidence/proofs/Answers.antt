@@ -1,7 +1,7 @@
 -- What each answer of 01 keeps out: for refusals 1 to 14 and *already* fair calls that it answers and that, done all the same, break a promise of demand 3.
 -- (15 and 16 are never answered in a run; 17 and 18 are answers to fund.) Assumes nothing.
 use Prim.Native.Nat.{ℕ, _+_, _≤_}
-use mathlib.Core.Path.{_≡_, refl, sym, ap, subst, _∙_}
+use mathlib.Core.Path.{_≡_, refl, sym, subst, _∙_}
 use mathlib.Core.Bool.{Bool, true, false, _&&_, not, false≢true}
 use mathlib.Core.List.{List, [], _∷_, _++_}
 use mathlib.Core.Logic.{inl, inr}
@@ -14,7 +14,8 @@ use Rattle.model.specs.Histories.{Event, votes}
 use Rattle.model.specs.Quorums.{count}
 use Rattle.model.proofs.SumLaws.{is-in, sum-in, sum-zero}
 use Rattle.octets.specs.Octets.{same}
-use Rattle.wire.specs.Messages.{payment, fundingBytes}
+use Rattle.octets.proofs.Laws.{same-is, is-same}
+use Rattle.wire.specs.Messages.{fundingBytes}
 use Rattle.wire.specs.Votes.{certificateBytes}
 use Rattle.wire.specs.Refusals.{Said, refuses}
 use Rattle.wire.specs.declared.kinds.Payment.{Payment}
@@ -22,11 +23,10 @@ use Rattle.wire.proofs.FieldLaws.{both}
 use Rattle.records.specs.Answers.{already}
 use Rattle.safety.specs.Runs.{Call, Moment, start, answer, after}
 use Rattle.safety.specs.Demand3.{takes, brings, Safe}
-use Rattle.safety.proofs.Papers.{same-is, is-same}
-use Rattle.evidence.specs.Example.{isThree, e2, signature, bodyOf, orderOf, certificateOf, good, allGood}
+use Rattle.evidence.specs.Example.{isThree, pays, payout, e2, signature, bodyOf, orderOf, certificateOf, good, allGood}
 use Rattle.evidence.specs.Without.{anyway, Without, Step, afterSteps, Guards}
-use Rattle.evidence.proofs.Checking.{areFairVotes, isFair, fair-call, messages, machine-calls, ledger-calls}
-use Rattle.evidence.proofs.Premises.{within, unpayable}
+use Rattle.evidence.proofs.Checking.{unlike, areFairVotes, isFair, fair-call, messages, machine-calls, ledger-calls}
+use Rattle.evidence.proofs.Premises.{within, fundingCalls, unpayable}
 
 -- ---- such runs by computing
 
@@ -71,11 +71,6 @@ guards said steps h broken = record { few = lit≤ tt; run = checked said (start
 
 -- ---- payments
 
--- sender, kind, recipient, amount, sequence
-abbrev pays : ℕ → ℕ → ℕ → ℕ → ℕ → Payment
-pays sender kind recipient amount sequence =
-    record { sender = record { 0 = sender }; kind = kind; recipient = recipient; amount = amount; sequence = record { 0 = sequence } }
-
 -- two payments of account 2 to account 7 under one number
 abbrev one : Payment
 one = pays 2 0 7 500 0
@@ -86,7 +81,7 @@ two = pays 2 0 7 400 0
 -- the two bodies are different
 different : bodyOf one ≡ bodyOf two → ⊥
 unfolding messages
-different e = let z : _≡_ {A = ℕ} 500 400 = ap (λ b. payment b .amount) e in omega arith
+different = unlike (bodyOf one) (bodyOf two) refl
 
 -- account 2 pays ledger account 9, and more than it was funded with
 abbrev cash : Payment
@@ -95,11 +90,13 @@ cash = pays 2 1 9 1_000 0
 abbrev tooMuch : Payment
 tooMuch = pays 2 1 9 3_000 0
 
--- account 2 is funded with 2,000, and machines 0, 1 and 2 take the order
+-- calls, each made; and the funding that most runs begin with
+abbrev allMade : List Call → List Step
+allMade [] = []
+allMade (call ∷ calls) = Step.made call ∷ allMade calls
+
 abbrev funded : List Step
-funded =
-    Step.made (Call.fund (replicate 16 0) 2 2_000)
-    ∷ Step.made (Call.fundingOrder 0 e2 good) ∷ Step.made (Call.fundingOrder 1 e2 good) ∷ Step.made (Call.fundingOrder 2 e2 good) ∷ []
+funded = allMade fundingCalls
 
 -- a machine is asked for its vote; a certificate comes to it, with the votes of 0, 1 and 3
 abbrev votes-for : ℕ → Payment → Call
@@ -113,11 +110,6 @@ confirms k p = Call.certificate k (certificateOf p 0 1 3) allGood
 abbrev all : Payment
 all = pays 2 1 9 2_000 0
 
--- the two bodies are different
-not-cash : bodyOf all ≡ bodyOf cash → ⊥
-unfolding messages
-not-cash e = let z : _≡_ {A = ℕ} 2_000 1_000 = ap (λ b. payment b .amount) e in omega arith
-
 abbrev paysFor : List ℕ → List ℕ → List Step
 paysFor m verdicts =
     funded ++ Step.made (votes-for 0 cash) ∷ Step.forced (Call.redeem m verdicts) ∷ Step.made (votes-for 1 all) ∷ Step.made (votes-for 2 all) ∷ []
@@ -128,7 +120,7 @@ unpaid : (w : Moment) → areFairVotes 1 isThree w (certificateOf all 1 2 3) all
 unfolding messages
 unpaid w fair paid refused =
     unpayable w (certificateOf all 1 2 3) allGood 13 refl fair refl
-    (λ i. elim (subst (λ (l : List (List ℕ)). In (bodyOf all) l) paid i) [ inl e ↦ not-cash e | inr j ↦ j ]) refused
+    (λ i. elim (subst (λ (l : List (List ℕ)). In (bodyOf all) l) paid i) [ inl e ↦ unlike (bodyOf all) (bodyOf cash) refl e | inr j ↦ j ]) refused
 
 -- 1: a byte behind the last vote, so that it is no certificate and its verdicts say nothing
 pub refusal-1 : Guards (refuses 1) isThree (paysFor (certificateOf cash 0 1 2 ++ 0 ∷ []) allGood)
@@ -215,15 +207,10 @@ steps-13 =
     funded ++ Step.made (votes-for 0 moved) ∷ Step.made (votes-for 1 moved) ∷ Step.made (confirms 0 moved) ∷ Step.made (confirms 1 moved)
     ∷ Step.forced (Call.redeem (certificateOf moved 0 1 3) allGood) ∷ Step.made (votes-for 0 on) ∷ Step.made (votes-for 1 on) ∷ []
 
--- the two bodies are different
-not-moved : bodyOf on ≡ bodyOf moved → ⊥
-unfolding messages
-not-moved e = let z : _≡_ {A = ℕ} 1 0 = ap (λ b. payment b .kind) e in omega arith
-
 pub refusal-13 : Guards (refuses 13) isThree steps-13
 unfolding messages machine-calls ledger-calls
 refusal-13 =
-    guards _ _ refl (unpayable (afterSteps (start 1) steps-13) (certificateOf on 0 1 3) allGood 14 refl refl refl (elim [ inl e ↦ not-moved e | inr i ↦ i ]) refl)
+    guards _ _ refl (unpayable (afterSteps (start 1) steps-13) (certificateOf on 0 1 3) allGood 14 refl refl refl (elim [ inl e ↦ unlike (bodyOf on) (bodyOf moved) refl e | inr i ↦ i ]) refl)
 
 -- 14: a payment is paid twice
 pub refusal-14 : Guards (refuses 14) isThree
@@ -291,9 +278,6 @@ refusal-10-early = guards _ _ refl (λ safe. let z : 2_701 ≤ 2_000 = within is
 -- 2: a payment of a kind that there is not. Account 7 is credited with it and pays it to the ledger, and has neither funding nor a certain payment to it
 abbrev ofKind2 : Payment
 ofKind2 = pays 2 2 7 1_500 0
-
-abbrev payout : Payment
-payout = pays 7 1 9 1_500 0
 
 abbrev steps-2 : List Step
 steps-2 =

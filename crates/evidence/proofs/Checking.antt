@@ -1,7 +1,7 @@
 -- Concrete calls: tests for the premises of a run, so that a run is found by computing. Assumes nothing.
 use Prim.Native.Nat.{ℕ, zero, suc, _*_, _<_}
-use mathlib.Core.Path.{_≡_}
-use mathlib.Core.Bool.{Bool, true, _&&_, not, cond}
+use mathlib.Core.Path.{_≡_, sym, _∙_}
+use mathlib.Core.Bool.{Bool, true, false, _&&_, not, cond, false≢true}
 use mathlib.Core.List.{List, [], _∷_}
 use native.Mathlib.Omega.{arith}
 use lib.ListN.{length, getD}
@@ -11,6 +11,7 @@ use Rattle.model.specs.Lists.{In, isIn}
 use Rattle.model.specs.Histories.{votes}
 use Rattle.model.proofs.SumLaws.{is-in}
 use Rattle.octets.specs.Octets.{number, bytes, put, same, allZero}
+use Rattle.octets.proofs.Laws.{same-is, is-same}
 use Rattle.wire.specs.Fields as fields
 use Rattle.wire.specs.Messages.{certificateFields, fundingFields, payment, isPayment, bodyBytes, inside, orderBytes, funding, isFunding, fundingBytes}
 use Rattle.wire.specs.Votes.{signers, signersIn, known, risingFrom, good, voteFields, certificateBytes}
@@ -24,7 +25,10 @@ use Rattle.ledger.specs.Calls as on-ledger
 use Rattle.safety.specs.Runs.{Call, Moment, after}
 use Rattle.safety.specs.Demand3.{Honest, OnHonest, FairVotes, FairFunding, Fair, Run}
 use Rattle.evidence.specs.Example.{afterAll}
-use Rattle.safety.proofs.Papers.{same-is, is-same}
+
+-- bytes that are not the same are not equal
+pub unlike : (b c : List ℕ) → same b c ≡ false → b ≡ c → ⊥
+unlike b c h e = false≢true (sym h ∙ rw e (is-same c))
 
 -- the premises of a run as tests
 module _ (f : ℕ) (dishonest : ℕ → Bool) where

@@ -17,29 +17,32 @@ use Rattle.wire.specs.Refusals.{Said}
 use Rattle.wire.specs.declared.kinds.Payment.{Payment}
 use Rattle.safety.specs.Runs.{Call, Moment, start, answer, after}
 use Rattle.safety.specs.Demand3.{toLedger, amountOf, Run, Certain, Good, Safe}
-use Rattle.evidence.specs.Example.{afterAll, isThree, e1, e2, bodyOf, orderOf, certificateOf, good, allGood, reached}
-use Rattle.evidence.proofs.Checking.{areFairVotes, fair-votes, checked, messages, machine-calls, ledger-calls}
+use Rattle.evidence.specs.Example.{afterAll, isThree, pays, e1, e2, bodyOf, orderOf, certificateOf, good, allGood, reached}
+use Rattle.evidence.proofs.Checking.{unlike, areFairVotes, fair-votes, checked, messages, machine-calls, ledger-calls}
 
 -- another payment under E1's number: account 2 pays account 7 1,600
 abbrev other : Payment
-other = record { sender = record { 0 = 2 }; kind = 0; recipient = 7; amount = 1_600; sequence = record { 0 = 0 } }
+other = pays 2 0 7 1_600 0
 
 -- account 2 pays ledger account 9
 abbrev cash : Payment
-cash = record { sender = record { 0 = 2 }; kind = 1; recipient = 9; amount = 1_500; sequence = record { 0 = 0 } }
+cash = pays 2 1 9 1_500 0
 
 -- the two bodies are different
 different : bodyOf e1 ≡ bodyOf other → ⊥
 unfolding messages
-different e = let z : _≡_ {A = ℕ} 1_500 1_600 = ap (λ b. payment b .amount) e in omega arith
+different = unlike (bodyOf e1) (bodyOf other) refl
 
 -- a certain payment to the ledger is at most all funding
 pub within : (dishonest : ℕ → Bool) (w : Moment) (b : List ℕ) → Safe 1 dishonest w → Certain 1 dishonest w b → toLedger b ≤ sumOf amountOf (w .given)
 within dishonest w b safe certain = omega (arith, safe .solvent, sum-in toLedger (safe .certains) b (safe .all-certain b certain))
 
--- account 2 is funded, and all three honest machines know it
+-- account 2 is funded with 2,000, and machines 0, 1 and 2 take the order
+abbrev pub fundingCalls : List Call
+fundingCalls = Call.fund (replicate 16 0) 2 2_000 ∷ Call.fundingOrder 0 e2 good ∷ Call.fundingOrder 1 e2 good ∷ Call.fundingOrder 2 e2 good ∷ []
+
 abbrev funded : Moment
-funded = reached (Call.fund (replicate 16 0) 2 2_000 ∷ Call.fundingOrder 0 e2 good ∷ Call.fundingOrder 1 e2 good ∷ Call.fundingOrder 2 e2 good ∷ [])
+funded = reached fundingCalls
 
 -- machines 0 and 1 vote for a payment
 abbrev bothVote : Moment → Payment → Moment
@@ -112,18 +115,13 @@ unpayable w m verdicts n good fair kind unpaid refused safe =
 
 -- "A good verdict on an honest machine's vote": where it may be false, the ledger pays 1,500 that nobody voted for, and account 2's 2,000 is no longer paid
 abbrev allOfIt : Payment
-allOfIt = record { sender = record { 0 = 2 }; kind = 1; recipient = 9; amount = 2_000; sequence = record { 0 = 0 } }
-
--- the two bodies are different
-not-that : bodyOf allOfIt ≡ bodyOf cash → ⊥
-unfolding messages
-not-that e = let z : _≡_ {A = ℕ} 2_000 1_500 = ap (λ b. payment b .amount) e in omega arith
+allOfIt = pays 2 1 9 2_000 0
 
 pub true-votes : Safe 1 isThree (bothVote (after funded (Call.redeem (certificateOf cash 0 1 2) allGood)) allOfIt) → ⊥
 unfolding messages machine-calls ledger-calls
 true-votes =
     unpayable (bothVote (after funded (Call.redeem (certificateOf cash 0 1 2) allGood)) allOfIt) (certificateOf allOfIt 0 1 3) allGood 13 refl refl refl
-    (elim [ inl e ↦ not-that e | inr i ↦ i ]) refl
+    (elim [ inl e ↦ unlike (bodyOf allOfIt) (bodyOf cash) refl e | inr i ↦ i ]) refl
 
 -- "or on a funding order": where it may be false, 1,500 to the ledger is certain without any funding
 pub true-funding : Safe 1 isThree (bothVote (reached (Call.fundingOrder 0 e2 good ∷ Call.fundingOrder 1 e2 good ∷ [])) cash) → ⊥

@@ -33,13 +33,18 @@ isThree k = eqb k 3
 abbrev pub e2 : List ℕ
 e2 = fundingBytes (record { index = record { 0 = 1 }; account = record { 0 = 2 }; amount = 2_000 })
 
+-- a payment: sender, kind, recipient, amount, sequence
+abbrev pub pays : ℕ → ℕ → ℕ → ℕ → ℕ → Payment
+pays sender kind recipient amount sequence =
+    record { sender = record { 0 = sender }; kind = kind; recipient = recipient; amount = amount; sequence = record { 0 = sequence } }
+
 -- E1: account 2 pays account 7 1,500, sequence 0
 abbrev pub e1 : Payment
-e1 = record { sender = record { 0 = 2 }; kind = 0; recipient = 7; amount = 1_500; sequence = record { 0 = 0 } }
+e1 = pays 2 0 7 1_500 0
 
 -- account 7 pays all of it to ledger account 9, sequence 0
 abbrev pub payout : Payment
-payout = record { sender = record { 0 = 7 }; kind = 1; recipient = 9; amount = 1_500; sequence = record { 0 = 0 } }
+payout = pays 7 1 9 1_500 0
 
 -- 64 signature bytes. The host checks signatures, so any will do
 abbrev pub signature : List ℕ

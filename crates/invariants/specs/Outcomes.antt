@@ -11,13 +11,14 @@ use Rattle.octets.specs.Octets.{same}
 use Rattle.wire.specs.Numbers.{isFaults, isMachine}
 use Rattle.wire.specs.Fields.{need, laid}
 use Rattle.wire.specs.Messages.{bodyFields, orderFields, certificateFields, fundingFields, payment, inside, isPayment, funding, isFunding}
-use Rattle.wire.specs.Votes.{Committee, signersIn, good}
+use Rattle.wire.specs.Votes.{Committee, votes, signersIn, known, rising, good}
 use Rattle.wire.specs.Refusals.{Said, refuses}
 use Rattle.wire.specs.Readers.{isBody, readPayment, readOrderPayment, readFunding, judgedBy}
 use Rattle.wire.specs.declared.kinds.Payment.{Payment}
 use Rattle.wire.specs.declared.kinds.Funding.{Funding}
 use Rattle.wire.proofs.FieldLaws.{both}
 use Rattle.roundtrip.specs.Answers.{through, said}
+use Rattle.roundtrip.specs.VoteLaws.{length-signers}
 use Rattle.wire.proofs.Ranges.{PaymentRange, payment-range, FundingRange, funding-range}
 use Rattle.states.specs.Headers.{lastIndex, withIndex}
 use Rattle.states.specs.Outcomes.{Outcome, outcome, refused, done}
@@ -37,13 +38,39 @@ order-body m e =
     let c = through said (isPayment (payment (inside m))) (refuses 2) _ (lit< tt) (b .1) in
     rw (b .0, c .0)
 
-pub certificate-body : (c : Committee) (m verdicts : List ℕ) → said (judgedBy c m verdicts) ≡ 0 → isBody (inside m) ≡ true
+-- what the judge of a certificate found
+pub record Judged (c : Committee) (m verdicts : List ℕ) : Type 0 where
+  pub laid-down : laid m certificateFields ≡ true
+  pub body : isBody (inside m) ≡ true
+  pub count : length verdicts ≡ length (signersIn m)
+  pub members : known (c .last) (signersIn m) ≡ true
+  pub in-order : rising (signersIn m) ≡ true
+  pub verdicts-good : good verdicts ≡ true
+  pub enough : c .quorum (signersIn m) ≡ true
+
+pub judged : (c : Committee) (m verdicts : List ℕ) → said (judgedBy c m verdicts) ≡ 0 → Judged c m verdicts
 unfolding judgedBy
-certificate-body c m verdicts e =
+judged c m verdicts e =
     let a = through said (laid m certificateFields) (refuses 1) _ (lit< tt) e in
     let b = through said (laid (inside m) bodyFields) (refuses 1) _ (lit< tt) (a .1) in
-    let c = through said (isPayment (payment (inside m))) (refuses 2) _ (lit< tt) (b .1) in
-    rw (b .0, c .0)
+    let d = through said (isPayment (payment (inside m))) (refuses 2) _ (lit< tt) (b .1) in
+    let g = through said (eqb (length verdicts) (votes m)) (refuses 3) _ (lit< tt) (d .1) in
+    let k = through said (known (c .last) (signersIn m)) (refuses 5) _ (lit< tt) (g .1) in
+    let r = through said (rising (signersIn m)) (refuses 6) _ (lit< tt) (k .1) in
+    let v = through said (good verdicts) (refuses 4) _ (lit< tt) (r .1) in
+    let q = through said (c .quorum (signersIn m)) (refuses 7) _ (lit< tt) (v .1) in
+    record {
+      laid-down = a .0;
+      body = rw (b .0, d .0);
+      count = eqb-true _ _ (g .0) ∙ sym (length-signers m _ 68 (votes m));
+      members = k .0;
+      in-order = r .0;
+      verdicts-good = v .0;
+      enough = q .0;
+    }
+
+pub certificate-body : (c : Committee) (m verdicts : List ℕ) → said (judgedBy c m verdicts) ≡ 0 → isBody (inside m) ≡ true
+certificate-body c m verdicts e = judged c m verdicts e .body
 
 pub funding-order : (m : List ℕ) → said (readFunding m) ≡ 0 → (laid m fundingFields ≡ true) × (isFunding (funding m) ≡ true)
 unfolding readFunding

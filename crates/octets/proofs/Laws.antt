@@ -1,16 +1,18 @@
--- Laws of `put`, `bytes`, `number` and `cut`. Assumes nothing.
+-- Laws of `put`, `bytes`, `number`, `cut` and `same`. Assumes nothing.
 use Prim.Native.Nat.{ℕ, zero, suc, _+_, _*_, _/_, _%_, _^_, _<_, _≤_, _-_, min}
 use mathlib.Core.Path.{_≡_, refl, sym, ap, _∙_}
+use mathlib.Core.Bool.{Bool, true, false, _&&_, false≢true}
 use mathlib.Core.List.{List, [], _∷_, _++_, append-nil, append-assoc}
 use native.Mathlib.Omega.{arith}
 use native.Mathlib.Nat.{two-pow-succ, div-add-mod', div-lt-iff-lt-mul, mod-lt, one-le-pow, zero-add}
 use native.Mathlib.Numerals.{add-one}
 use lib.Arith.{digits-lt, digits-div, digits-mod}
 use lib.Pow.{pow-add}
-use lib.Dec.{lit<}
+use lib.Dec.{eqb, lit<}
 use lib.ListN.{length, getD, take, drop, set, replicate, length-replicate, replicate-append-replicate, length-append, length-take, length-drop, take-append-drop}
 use lib.Seq.{sets, length-sets, getD-set-other, getD-set-same, set-getD, sets-eq, take-suc, length-take-le, drop-length, drop-at, take-at, ext-getD, getD-take, getD-drop, take-add}
-use Rattle.octets.specs.Octets.{span, number, bytes, cut, put}
+use borrow.Author.Tests.{eqb-true, eq-eqb}
+use Rattle.octets.specs.Octets.{span, number, bytes, cut, put, same}
 
 -- two stretches one after the other are one stretch
 pub put-append : (s : List ℕ) (at : ℕ) (a b : List ℕ) → put s at (a ++ b) ≡ put (put s at a) (at + length a) b
@@ -144,3 +146,20 @@ unfolding put
 put-zeros s at i =
     sym (rw (← (replicate-append-replicate {A = ℕ} i 1 0))
     (put-append s at (replicate i 0) (0 ∷ []) ∙ ap (λ (n : ℕ). set (sets s at (replicate i 0)) (at + n) 0) (length-replicate i 0)))
+
+-- bytes that are the same are equal, and the other way round
+pub same-is : (s t : List ℕ) → same s t ≡ true → s ≡ t
+unfolding same
+same-is [] [] h = refl
+same-is [] (y ∷ t) h = absurd (false≢true h)
+same-is (x ∷ s) [] h = absurd (false≢true h)
+same-is (x ∷ s) (y ∷ t) h = go (eqb x y) refl h (λ q. same-is s t q)
+  where
+    go : (b : Bool) → eqb x y ≡ b → (b && same s t) ≡ true → (same s t ≡ true → s ≡ t) → x ∷ s ≡ y ∷ t
+    go true e q rest = let first = eqb-true x y e in let others = rest q in λ i. first i ∷ others i
+    go false e q rest = absurd (false≢true q)
+
+pub is-same : (s : List ℕ) → same s s ≡ true
+unfolding same
+is-same [] = refl
+is-same (x ∷ s) = rw (eq-eqb x x refl, is-same s)

@@ -1,12 +1,12 @@
 -- A good certificate with fair verdicts makes its body certain. Assumes nothing.
 use Prim.Native.Nat.{ℕ, zero, suc, _+_, _*_, _<_}
-use mathlib.Core.Path.{_≡_, refl, sym, ap, _∙_}
+use mathlib.Core.Path.{_≡_, refl, sym, ap}
 use mathlib.Core.Bool.{Bool, true, false}
 use mathlib.Core.List.{List, [], _∷_}
 use mathlib.Core.Logic.{inl, inr}
 use native.Mathlib.Omega.{arith}
 use lib.ListN.{length, getD}
-use lib.Dec.{eqb, lit<}
+use lib.Dec.{eqb}
 use borrow.Author.Tests.{eqb-true, leb-true}
 use Rattle.model.specs.Lists.{In, Distinct, sumOf}
 use Rattle.model.specs.Quorums as quorums
@@ -14,15 +14,12 @@ use Rattle.model.specs.Histories.{votes}
 use Rattle.model.specs.Worlds as model
 use Rattle.model.proofs.QuorumLaws.{signers-enough}
 use Rattle.model.proofs.Safety.{good-certificate}
-use Rattle.wire.specs.Fields.{laid}
-use Rattle.wire.specs.Messages.{bodyFields, certificateFields, payment, isPayment, inside}
-use Rattle.wire.specs.Refusals.{refuses}
+use Rattle.wire.specs.Messages.{inside}
 use Rattle.wire.specs.Votes as wire
 use Rattle.wire.specs.Readers.{judgedBy}
 use Rattle.wire.proofs.FieldLaws.{both}
-use Rattle.roundtrip.specs.Answers.{through, said}
-use Rattle.roundtrip.specs.VoteLaws.{length-signers}
 use Rattle.roundtrip.specs.Voters.{rising-distinct, known-most}
+use Rattle.invariants.specs.Outcomes.{Judged, judged}
 use Rattle.safety.specs.Runs.{Moment}
 use Rattle.safety.specs.Demand3.{FairVotes}
 use Rattle.safety.proofs.Papers.{papers, world}
@@ -37,38 +34,9 @@ pub counting-seats : (f : ℕ) → Seats (quorums.counting f) (wire.committee f)
 unfolding quorums.counting
 counting-seats f = record { last = refl; enough = λ machines h. signers-enough f machines (leb-true _ _ h) }
 
--- what the judge of a certificate found
-pub record Judged (c : wire.Committee) (m verdicts : List ℕ) : Type 0 where
-  pub laid-down : laid m certificateFields ≡ true
-  pub count : length verdicts ≡ length (wire.signersIn m)
-  pub known : wire.known (c .last) (wire.signersIn m) ≡ true
-  pub rising : wire.rising (wire.signersIn m) ≡ true
-  pub good : wire.good verdicts ≡ true
-  pub quorum : c .quorum (wire.signersIn m) ≡ true
-
-pub judged : (c : wire.Committee) (m verdicts : List ℕ) → judgedBy c m verdicts .number ≡ 0 → Judged c m verdicts
-unfolding judgedBy
-judged c m verdicts e =
-    let a = through said (laid m certificateFields) (refuses 1) _ (lit< tt) e in
-    let b = through said (laid (inside m) bodyFields) (refuses 1) _ (lit< tt) (a .1) in
-    let d = through said (isPayment (payment (inside m))) (refuses 2) _ (lit< tt) (b .1) in
-    let g = through said (eqb (length verdicts) (wire.votes m)) (refuses 3) _ (lit< tt) (d .1) in
-    let k = through said (wire.known (c .last) (wire.signersIn m)) (refuses 5) _ (lit< tt) (g .1) in
-    let r = through said (wire.rising (wire.signersIn m)) (refuses 6) _ (lit< tt) (k .1) in
-    let v = through said (wire.good verdicts) (refuses 4) _ (lit< tt) (r .1) in
-    let q = through said (c .quorum (wire.signersIn m)) (refuses 7) _ (lit< tt) (v .1) in
-    record {
-      laid-down = a .0;
-      count = eqb-true _ _ (g .0) ∙ sym (length-signers m _ 68 (wire.votes m));
-      known = k .0;
-      rising = r .0;
-      good = v .0;
-      quorum = q .0;
-    }
-
 -- each machine counts once
 pub signers-once : (c : wire.Committee) (m verdicts : List ℕ) → Judged c m verdicts → Distinct (wire.signersIn m)
-signers-once c m verdicts j = rising-distinct (wire.signersIn m) (j .rising)
+signers-once c m verdicts j = rising-distinct (wire.signersIn m) (j .in-order)
 
 -- what stands in a list stands at a place of it
 place-of : (l : List ℕ) (k : ℕ) → In k l → (i : ℕ) × (i < length l) × (getD l i 0 ≡ k)
@@ -99,11 +67,11 @@ pub certified : (C : quorums.Committee) (c : wire.Committee) → Seats C c → (
 certified C c seats dishonest w m verdicts good voted =
     let j = judged c m verdicts good in
     good-certificate papers C dishonest (world w) (inside m) (wire.signersIn m) (signers-once c m verdicts j)
-    (λ k i. (omega (arith, known-most (wire.signersIn m) (c .last) k (j .known) i, seats .last), voted j k i)) (seats .enough (wire.signersIn m) (j .quorum))
+    (λ k i. (omega (arith, known-most (wire.signersIn m) (c .last) k (j .members) i, seats .last), voted j k i)) (seats .enough (wire.signersIn m) (j .enough))
 
 -- fair verdicts vouch
 pub fair-votes : (f : ℕ) (dishonest : ℕ → Bool) (w : Moment) (m verdicts : List ℕ) → FairVotes f dishonest w m verdicts → Vouched dishonest w (wire.committee f) m verdicts
 fair-votes f dishonest w m verdicts fair j k i h =
     let p = place-of (wire.signersIn m) k i in
-    let one = good-at verdicts (p .0) (j .good) (omega (arith, j .count)) in
-    rw (p .2) at (fair (j .laid-down) (j .count) (p .0) (omega (arith, j .count)) one) (known-most (wire.signersIn m) (3 * f) k (j .known) i, h)
+    let one = good-at verdicts (p .0) (j .verdicts-good) (omega (arith, j .count)) in
+    rw (p .2) at (fair (j .laid-down) (j .count) (p .0) (omega (arith, j .count)) one) (known-most (wire.signersIn m) (3 * f) k (j .members) i, h)

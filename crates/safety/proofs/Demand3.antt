@@ -20,6 +20,7 @@ use Rattle.wire.specs.Votes.{committee, signersIn}
 use Rattle.records.specs.Balances.{nought}
 use Rattle.records.specs.States as machine
 use Rattle.records.specs.Calls as on-machine
+use Rattle.invariants.specs.Outcomes.{judged}
 use Rattle.invariants.specs.Theorems.{certificate-counts, account-balance}
 use Rattle.invariants.specs.Bounds.{order-low, certificate-low, funding-low}
 use Rattle.ledger.specs.States as ledger
@@ -30,7 +31,7 @@ use Rattle.roundtrip.specs.Voters.{known-most}
 use Rattle.safety.specs.Runs.{Call, Moment, answer}
 use Rattle.safety.specs.Demand3.{AtMostF, takes, brings, toLedger, funds, Honest, OnHonest, FairVotes, Good, Safe, Kept, Demand3}
 use Rattle.safety.proofs.Papers.{papers, world, certain-counts, counts-certain}
-use Rattle.safety.proofs.Certificates.{counting-seats, judged, signers-once, fair-votes}
+use Rattle.safety.proofs.Certificates.{counting-seats, signers-once, fair-votes}
 use Rattle.safety.proofs.Books.{amountIn}
 use Rattle.safety.proofs.Holding.{Follower}
 use Rattle.safety.proofs.Paying.{certain, pays-whole}
@@ -81,7 +82,7 @@ module _ (f : ℕ) (dishonest : ℕ → Bool) (few : AtMostF f dishonest) (w : M
         paid-certain = λ b i. (certain-counts f dishonest w b (h .sound .paid-certain b i), h .books .ledgers b i .1);
         counted-once = λ m verdicts good.
             let j = judged (committee f) m verdicts good in
-            (signers-once (committee f) m verdicts j, λ k i. known-most (signersIn m) (3 * f) k (j .known) i, leb-true _ _ (j .quorum));
+            (signers-once (committee f) m verdicts j, λ k i. known-most (signersIn m) (3 * f) k (j .members) i, leb-true _ _ (j .enough));
       }
 
   -- no call answers 16

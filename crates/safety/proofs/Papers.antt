@@ -1,14 +1,13 @@
 -- Bodies and funding orders as bytes, and what a state shows of the accounts: the model's words for what the page speaks of. Assumes nothing.
 use Prim.Native.Nat.{ℕ, suc, _+_, _*_}
-use mathlib.Core.Path.{_≡_, refl, sym, ap, _∙_}
-use mathlib.Core.Bool.{Bool, true, false, _||_, cond, false≢true}
+use mathlib.Core.Path.{_≡_, sym, ap, _∙_}
+use mathlib.Core.Bool.{Bool, _||_, cond}
 use mathlib.Core.List.{List, [], _∷_}
 use mathlib.Core.Logic.{inl, inr}
 use mathlib.Core.Option.{Option, none, some}
 use native.Mathlib.Omega.{arith}
 use lib.ListN.{length, take}
 use lib.Dec.{eqb}
-use borrow.Author.Tests.{eqb-true, eq-eqb}
 use Rattle.model.specs.Lists.{In, isIn}
 use Rattle.model.specs.Quorums.{counting}
 use Rattle.model.specs.Histories.{Payments, votes}
@@ -16,30 +15,13 @@ use Rattle.model.specs.Worlds as model
 use Rattle.model.specs.Views.{Shown, GaveAs}
 use Rattle.model.proofs.QuorumLaws.{count-quorum, quorum-count, count-either}
 use Rattle.octets.specs.Octets.{same}
+use Rattle.octets.proofs.Laws.{same-is, is-same}
 use Rattle.wire.specs.Messages.{payment, funding}
-use Rattle.wire.proofs.FieldLaws.{both}
 use Rattle.states.specs.Headers.{lastIndex}
 use Rattle.records.specs.declared.record.Record.{Record}
 use Rattle.records.specs.States.{Rules, recordOf}
 use Rattle.safety.specs.Runs.{Moment}
 use Rattle.safety.specs.Demand3.{Certain}
-
--- bytes that are the same are equal, and the other way round
-pub same-is : (a b : List ℕ) → same a b ≡ true → a ≡ b
-unfolding same
-same-is [] [] h = refl
-same-is [] (y ∷ b) h = absurd (false≢true h)
-same-is (x ∷ a) [] h = absurd (false≢true h)
-same-is (x ∷ a) (y ∷ b) h =
-    let t = both (eqb x y) (same a b) h in
-    let e : x ≡ y = eqb-true x y (t .0) in
-    let q : a ≡ b = same-is a b (t .1) in
-    λ i. e i ∷ q i
-
-pub is-same : (a : List ℕ) → same a a ≡ true
-unfolding same
-is-same [] = refl
-is-same (x ∷ a) = rw (eq-eqb x x refl, is-same a)
 
 -- the model's payments and funding orders are ours
 abbrev pub papers : Payments

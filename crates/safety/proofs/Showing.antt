@@ -16,7 +16,7 @@ use Rattle.model.specs.Views.{GaveAs, Effect, events, Follows, SameTurns, Same,
 use Rattle.model.proofs.SumLaws.{only-le}
 use Rattle.model.proofs.Following.{follows-fresh}
 use Rattle.octets.specs.Octets.{two, bytes}
-use Rattle.octets.proofs.Laws.{length-bytes, number-put-out, cut-put}
+use Rattle.octets.proofs.Laws.{length-bytes, number-put-out, cut-put, same-is}
 use Rattle.wire.specs.Fields.{laid}
 use Rattle.wire.specs.Messages.{fundingFields, payment, inside, funding}
 use Rattle.wire.specs.Votes.{good}
@@ -35,7 +35,7 @@ use Rattle.invariants.specs.Outcomes.{afterVote, afterPaid, afterFunding, Repea
 use Rattle.invariants.specs.Keeping.{formed-of, withRecord-keeps}
 use Rattle.invariants.specs.Bounds.{follows-index, read-back, fresh-record, fresh-index}
 use Rattle.safety.specs.Runs.{noted, isConfirmed}
-use Rattle.safety.proofs.Papers.{same-is, papers, opened, shown, Numbered, given-as}
+use Rattle.safety.proofs.Papers.{papers, opened, shown, Numbered, given-as}
 
 -- a record written is the account's, and the others stay
 pub record-after : (rules : Rules) (s : List ℕ) (a : ℕ) (r : Record) → WellFormed rules s → a ≤ 63 → Formed a r
