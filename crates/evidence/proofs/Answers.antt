@@ -23,7 +23,7 @@ use Rattle.wire.proofs.FieldLaws.{both}
 use Rattle.records.specs.Answers.{already}
 use Rattle.safety.specs.Runs.{Call, Moment, start, answer, after}
 use Rattle.safety.specs.Demand3.{takes, brings, Safe}
-use Rattle.evidence.specs.Example.{isThree, pays, payout, e2, signature, bodyOf, orderOf, certificateOf, good, allGood}
+use Rattle.evidence.specs.Example.{isThree, pays, payout, e1, e2, signature, bodyOf, orderOf, certificateOf, good, allGood}
 use Rattle.evidence.specs.Without.{anyway, Without, Step, afterSteps, Guards}
 use Rattle.evidence.proofs.Checking.{unlike, areFairVotes, isFair, fair-call, messages, machine-calls, ledger-calls}
 use Rattle.evidence.proofs.Premises.{within, fundingCalls, unpayable}
@@ -221,14 +221,11 @@ refusal-14 = guards _ _ refl (λ safe. safe .paid-once .0 (inl refl))
 
 -- ---- certificates on a machine
 
--- *already*: two machines confirm and credit 1,500 twice, and account 7 pays 3,000 to the ledger
-abbrev large : Payment
-large = pays 2 0 7 1_500 0
-
+-- *already*: two machines confirm and credit E1's 1,500 twice, and account 7 pays 3,000 to the ledger
 abbrev steps-already : List Step
 steps-already =
-    funded ++ Step.made (votes-for 0 large) ∷ Step.made (votes-for 1 large) ∷ Step.made (confirms 0 large) ∷ Step.made (confirms 1 large)
-    ∷ Step.forced (confirms 0 large) ∷ Step.forced (confirms 1 large)
+    funded ++ Step.made (votes-for 0 e1) ∷ Step.made (votes-for 1 e1) ∷ Step.made (confirms 0 e1) ∷ Step.made (confirms 1 e1)
+    ∷ Step.forced (confirms 0 e1) ∷ Step.forced (confirms 1 e1)
     ∷ Step.made (votes-for 0 (pays 7 1 9 3_000 0)) ∷ Step.made (votes-for 1 (pays 7 1 9 3_000 0)) ∷ []
 
 pub already-answered : Guards (already 3) isThree steps-already
