@@ -7,13 +7,14 @@ ghost use lib.ListN.{length};
 ghost use Rattle.wire.specs.Messages.{isFunding};
 ghost use Rattle.states.specs.Outcomes.{outcome, freshSaid};
 ghost use Rattle.records.specs.States.{base};
-ghost use Rattle.records.specs.Answers.{creditSaid, accountShown};
+ghost use Rattle.records.specs.Answers.{creditSaid, accountShown, standingSaid};
 ghost use Rattle.records.specs.Calls as calls;
 use messages::funding;
 use messages::order;
 use records::answers::AccountAnswer;
 use records::answers::CreditAnswer;
 use records::answers::Reading;
+use records::answers::StandingAnswer;
 use records::balance;
 use records::record::Record;
 use records::state;
@@ -23,6 +24,7 @@ use states::header;
 use wire::answers::BodyAnswer;
 use wire::answers::FundingAnswer;
 use wire::answers::Refusal;
+use wire::answers::Stretch;
 use wire::kinds::Account;
 use wire::kinds::Funding;
 use wire::kinds::Machine;
@@ -105,26 +107,44 @@ pub fn read_account(s: &[u8], account: Account) -> AccountAnswer
     })
 }
 
-// The body that stands for an order's sender: the one pending in the state, otherwise the message's own, uncopied in both cases.
-pub fn standing_body<'a>(message: &'a [u8], s: &'a [u8]) -> &'a [u8]
-    ensures { λ r. ⌜ now r ≡ calls.standing base (now (message .entry)) (now (s .entry)) ⌝ }
+// Where the body that stands for an order's sender lies: the one pending in the state, otherwise the message's own.
+pub fn standing_at(message: &[u8], s: &[u8]) -> StandingAnswer
+    ensures { λ r. ⌜ standingSaid r ≡ calls.standingAt base (now (message .entry)) (now (s .entry)) ⌝ }
 {
+    let nowhere = StandingAnswer::InMessage(Stretch {
+        place: 0,
+        length: 0,
+    });
     if !state::formed(s) {
-        return octets::cut(message, 0, 0);
+        return nowhere;
     }
     match order::order_payment(message) {
-        BodyAnswer::Refused(_) => octets::cut(message, 0, 0),
+        BodyAnswer::Refused(_) => nowhere,
         BodyAnswer::Pays(payment) => {
             let sender = payment.sender;
             if !Record::formed(s, sender) {
-                return octets::cut(message, 0, 0);
+                return nowhere;
             }
-            let pending = Record::pending(s, sender);
-            if 0 < pending.len() {
-                return pending;
+            let length = Record::pending(s, sender).len();
+            if 0 < length {
+                let place = Record::place(sender) + 12;
+                return StandingAnswer::InState(Stretch { place, length });
             }
             let size = octets::get16(message, 1) as usize;
-            octets::cut(message, 3, size)
+            StandingAnswer::InMessage(Stretch {
+                place: 3,
+                length: size,
+            })
         }
+    }
+}
+
+// The body itself, uncopied.
+pub fn standing_body<'a>(message: &'a [u8], s: &'a [u8]) -> &'a [u8]
+    ensures { λ r. ⌜ now r ≡ calls.standing base (now (message .entry)) (now (s .entry)) ⌝ }
+{
+    match standing_at(message, s) {
+        StandingAnswer::InMessage(at) => octets::cut(message, at.place, at.length),
+        StandingAnswer::InState(at) => octets::cut(s, at.place, at.length),
     }
 }

@@ -1,3 +1,3 @@
 pub mod Onward
-pub mod Passing
+pub mod Stretches
 pub mod Told

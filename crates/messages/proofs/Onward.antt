@@ -1,26 +1,19 @@
 -- What a function does with the answer of the one below it: a refusal is passed on, and with values it goes on. Assumes nothing.
 use Prim.Native.Nat.{ℕ, _+_, _-_, _*_, _/_, _≤_, _<_}
-use mathlib.Core.Path.{_≡_, refl, ap, _∙_}
+use mathlib.Core.Path.{_≡_, refl, sym, ap, _∙_}
 use mathlib.Core.Bool.{Bool, true, false, _&&_}
 use mathlib.Core.List.{List, [], _∷_, _++_}
 use native.Mathlib.Omega.{arith}
-use lib.ListN.{length}
+use lib.ListN.{length, take, drop}
 use lib.Dec.{leb, ltb}
-use lib.Count.{ones}
-use borrow.Author.Tests.{leb-true}
-use Rattle.octets.specs.Octets.{two, number}
-use Rattle.wire.specs.Numbers.{isFaults}
-use Rattle.wire.specs.Fields.{need, size, laid}
+use Rattle.octets.specs.Octets.{two, number, cut}
+use Rattle.wire.specs.Fields.{need, lost, wantAll, size, laid}
 use Rattle.wire.specs.Messages.{bodyFields, payment, isPayment, orderFields, certificateFields, inside}
 use Rattle.wire.specs.Votes.{known, rising, votes}
-use Rattle.wire.specs.Refusals.{Said, gives, refuses, paymentValues, certificateSaid}
-use Rattle.wire.specs.Readers.{readPayment, readOrderPayment, isBody, isOrder}
-use Rattle.wire.specs.declared.kinds.Payment.{Payment}
-use Rattle.wire.proofs.Laid.{body-laid, certificate-laid, votes-length}
-use Rattle.votes.specs.Tally.{Tallied, votesJudged, votesSaid}
-use Rattle.votes.specs.declared.Tally.{Tally}
-use Rattle.votes.specs.declared.VotesAnswer.{VotesAnswer}
-use Rattle.messages.specs.Steps.{certificateBody, votedFor}
+use Rattle.wire.specs.Refusals.{Said, gives, refuses, paymentValues}
+use Rattle.wire.specs.Readers.{readPayment, readOrderPayment, isBody, isOrder, countOf}
+use Rattle.wire.proofs.Laid.{enclosed, not-enclosed, body-laid, certificate-laid, votes-length}
+use Rattle.votes.specs.Tally.{votesGiven}
 
 module _ {A : Type 0} (refused : ℕ → A) (rest : A) where
   -- what follows an answer with values, or its refusal
@@ -38,59 +31,45 @@ module _ {A : Type 0} (refused : ℕ → A) (rest : A) where
   payment-onward body e =
       ap onward e ∙ onward-need (laid body bodyFields) 1 _ ∙ ap (need (laid body bodyFields) (refused 1)) (onward-need (isPayment (payment body)) 2 _)
 
--- a tally is judged by the machine numbers that it counts
-counted-need : (known rising ok : Bool) (least m n : ℕ) → (known ≡ true → rising ≡ true → m ≡ n)
-    → need known (refuses 5) (need rising (refuses 6) (need ok (refuses 4) (need (leb least m) (refuses 7) (gives (m ∷ [])))))
-    ≡ need known (refuses 5) (need rising (refuses 6) (need ok (refuses 4) (need (leb least n) (refuses 7) (gives (n ∷ [])))))
-counted-need true true ok least m n e = rw (e refl refl)
-counted-need true false ok least m n e = refl
-counted-need false rising ok least m n e = refl
-
-pub judged-machines : (f : ℕ) (t : Tally) (ok : Bool) (last : ℕ) (machines : List ℕ) → Tallied t last machines
-    → votesJudged f t ok
-    ≡ need (known last machines) (refuses 5)
-    (need (rising machines) (refuses 6) (need ok (refuses 4) (need (leb (2 * f + 1) (length machines)) (refuses 7) (gives (length machines ∷ [])))))
-unfolding votesJudged
-judged-machines f t ok last machines tallied =
-    rw (tallied .allKnown, tallied .allRising) (counted-need (known last machines) (rising machines) ok (2 * f + 1) (ones (t .mask)) (length machines) (tallied .count))
-
--- the tests of votes
-pub votes-onward : {A : Type 0} (refused : ℕ → A) (rest : A) {said : Said} (f : ℕ) (t : Tally) (ok : Bool) (machines : List ℕ) → Tallied t (3 * f) machines → said ≡ votesJudged f t ok
-    → onward refused rest said
-    ≡ need (known (3 * f) machines) (refused 5) (need (rising machines) (refused 6) (need ok (refused 4) (need (leb (2 * f + 1) (length machines)) (refused 7) rest)))
-votes-onward refused rest f t ok machines tallied e =
-    ap (onward refused rest) (e ∙ judged-machines f t ok (3 * f) machines tallied)
-    ∙ onward-need refused rest (known (3 * f) machines) 5 _
-    ∙ ap (need (known (3 * f) machines) (refused 5)) (onward-need refused rest (rising machines) 6 _
-    ∙ ap (need (rising machines) (refused 6)) (onward-need refused rest ok 4 _
-    ∙ ap (need ok (refused 4)) (onward-need refused rest (leb (2 * f + 1) (length machines)) 7 _)))
+-- what is made of the answer of four tests is made of each way that they leave
+four-needs : {A B : Type 0} (made : A → B) (a b c d : Bool) (w x y z rest : A)
+    → made (need a w (need b x (need c y (need d z rest)))) ≡ need a (made w) (need b (made x) (need c (made y) (need d (made z) (made rest))))
+four-needs made true true true true w x y z rest = refl
+four-needs made true true true false w x y z rest = refl
+four-needs made true true false d w x y z rest = refl
+four-needs made true false c d w x y z rest = refl
+four-needs made false b c d w x y z rest = refl
 
 -- an answer with further values, or its refusal
-abbrev extended : List ℕ → Said → Said
+abbrev pub extended : List ℕ → Said → Said
 extended vs said = need (ltb 0 (length (said .values))) said (gives (said .values ++ vs))
 
-extended-need : (vs : List ℕ) (test : Bool) (n : ℕ) (said : Said) → extended vs (need test (refuses n) said) ≡ need test (refuses n) (extended vs said)
-extended-need vs true n said = refl
-extended-need vs false n said = refl
+-- what follows the tests of votes: the refusal that each of them gives, and what stands behind them
+module _ (f : ℕ) (machines : List ℕ) (ok : Bool) where
+  abbrev voted : {A : Type 0} → (ℕ → A) → A → A
+  voted refused rest =
+      need (known (3 * f) machines) (refused 5)
+      (need (rising machines) (refused 6)
+      (need ok (refused 4)
+      (need (leb (2 * f + 1) (length machines)) (refused 7)
+      rest)))
 
--- what the votes say is said of the payment
-voted-said : (p : Payment) (v : VotesAnswer) → certificateSaid (votedFor p v) ≡ extended (paymentValues p) (votesSaid v)
-voted-said p (VotesAnswer.Counted n) = refl
-voted-said p (VotesAnswer.Refused r) = refl
+  voted-made : {A : Type 0} (made : Said → A) (rest : Said) → made (voted refuses rest) ≡ voted (λ n. made (refuses n)) (made rest)
+  voted-made made rest = four-needs made (known (3 * f) machines) (rising machines) ok (leb (2 * f + 1) (length machines)) _ _ _ _ rest
 
--- the tests of the votes of a certificate
-pub votes-certify : (p : Payment) (v : VotesAnswer) (f : ℕ) (t : Tally) (ok : Bool) (machines vs : List ℕ) → paymentValues p ≡ vs → Tallied t (3 * f) machines → votesSaid v ≡ votesJudged f t ok
-    → certificateSaid (votedFor p v)
-    ≡ need (known (3 * f) machines) (refuses 5)
-    (need (rising machines) (refuses 6) (need ok (refuses 4) (need (leb (2 * f + 1) (length machines)) (refuses 7) (gives (length machines ∷ vs)))))
-votes-certify p v f t ok machines vs q tallied e =
-    voted-said p v
-    ∙ ap (λ (l : List ℕ). extended l (votesSaid v)) q
-    ∙ ap (extended vs) (e ∙ judged-machines f t ok (3 * f) machines tallied)
-    ∙ extended-need vs (known (3 * f) machines) 5 _
-    ∙ ap (need (known (3 * f) machines) (refuses 5)) (extended-need vs (rising machines) 6 _
-    ∙ ap (need (rising machines) (refuses 6)) (extended-need vs ok 4 _
-    ∙ ap (need ok (refuses 4)) (extended-need vs (leb (2 * f + 1) (length machines)) 7 _)))
+  pub votes-onward : {A : Type 0} (refused : ℕ → A) (rest : A) {said : Said} → said ≡ votesGiven f machines ok → onward refused rest said ≡ voted refused rest
+  unfolding votesGiven
+  votes-onward refused rest e = ap (onward refused rest) e ∙ voted-made (onward refused rest) _
+
+  -- with the payment's values behind the number of voters
+  pub votes-certify : (vs : List ℕ) {said : Said} → said ≡ votesGiven f machines ok → extended vs said ≡ voted refuses (gives (length machines ∷ vs))
+  unfolding votesGiven
+  votes-certify vs e = ap (extended vs) e ∙ voted-made (extended vs) _
+
+  -- and without them
+  pub votes-counted : (vs : List ℕ) {said : Said} → said ≡ votesGiven f machines ok → said ≡ countOf (voted refuses (gives (length machines ∷ vs)))
+  unfolding votesGiven
+  votes-counted vs e = e ∙ sym (voted-made countOf (gives (length machines ∷ vs)))
 
 -- where values are given, a test held, and what follows it gives them
 pub gives-held : {v : ℕ} {vs : List ℕ} (test : Bool) (n : ℕ) (said : Said) → gives (v ∷ vs) ≡ need test (refuses n) said → (test ≡ true) × (gives (v ∷ vs) ≡ said)
@@ -134,51 +113,47 @@ order-refused m n e = go (laid m orderFields) e
     go true e = payment-refused (inside m) n e
     go false e = refl
 
--- the tests of a certificate before its votes
-pub body-onward : (rest : Said) {said : Said} (f : ℕ) (m : List ℕ) → said ≡ certificateBody f m → onward refuses rest said
-    ≡ need (isFaults f) (refuses 2)
-    (need (laid m certificateFields) (refuses 1) (need (laid (inside m) bodyFields) (refuses 1) (need (isPayment (payment (inside m))) (refuses 2) rest)))
-unfolding certificateBody
-body-onward rest f m e =
-    ap (onward refuses rest) e ∙ onward-need refuses rest (isFaults f) 2 _
-    ∙ ap (need (isFaults f) (refuses 2)) (onward-need refuses rest (laid m certificateFields) 1 _
-    ∙ ap (need (laid m certificateFields) (refuses 1)) (onward-need refuses rest (laid (inside m) bodyFields) 1 _
-    ∙ ap (need (laid (inside m) bodyFields) (refuses 1)) (onward-need refuses rest (isPayment (payment (inside m))) 2 _)))
-
--- a certificate whose body was found to end at `end`, and the room that its votes have
-pub record Opened (f : ℕ) (m : List ℕ) (end : ℕ) (vs : List ℕ) : Type 0 where
-  pub faults : isFaults f ≡ true
+-- a certificate whose body was found to end at `end`: the body, and where its votes are, how many, and the room that they have
+pub record Opened (m : List ℕ) (end : ℕ) : Type 0 where
   pub laidDown : laid m certificateFields ≡ true
-  pub formed : laid (inside m) bodyFields ≡ true
-  pub inRange : isPayment (payment (inside m)) ≡ true
-  pub values : vs ≡ paymentValues (payment (inside m))
-  pub few : f ≤ 5
+  pub least : 3 ≤ end
   pub short : end ≤ length m
+  pub body : cut m 3 (end - 3) ≡ inside m
   pub first : end + 3 ≡ number two m 1 + 6
   pub count : (length m - end) / 68 ≡ votes m
   pub room : end + 3 + 68 * ((length m - end) / 68) < length m + 68
 
-pub opened : {end : ℕ} {vs : List ℕ} (f : ℕ) (m : List ℕ) → gives (end ∷ vs) ≡ certificateBody f m → Opened f m end vs
-unfolding certificateBody
-opened {end} {vs} f m e =
-    let a = gives-held (isFaults f) 2 _ e in
-    let b = gives-held (laid m certificateFields) 1 _ (a .1) in
-    let c = gives-held (laid (inside m) bodyFields) 1 _ (b .1) in
-    let d = gives-held (isPayment (payment (inside m))) 2 _ (c .1) in
-    let l : end ∷ vs ≡ (3 + size m 0) ∷ paymentValues (payment (inside m)) = ap (λ (s : Said). s .values) (d .1) in
-    let q : end ≡ 3 + size m 0 = cc in
-    let p = certificate-laid m (b .0) in
-    let n : length m ≡ number two m 1 + 3 + 68 * votes m = votes-length (votes m) m (number two m 1 + 3) (p .run) in
-    let q′ : end ≡ number two m 1 + 3 = omega arith in
-    record {
-      faults = a .0;
-      laidDown = b .0;
-      formed = c .0;
-      inRange = d .0;
-      values = cc;
-      few = leb-true _ _ (a .0);
-      short = omega arith;
-      first = omega arith;
-      count = ap (λ (k : ℕ). (length m - k) / 68) q′;
-      room = omega arith;
-    }
+module _ (m : List ℕ) (end : ℕ) (e : end ≡ need (laid m certificateFields) lost (3 + size m 0)) where
+  pub opened : (end ≡ lost → ⊥) → Opened m end
+  opened h =
+      let d = enclosed m 0x20 (wantAll 0x21 65 ∷ []) end e h in
+      let q : end ≡ number two m 1 + 3 = omega arith in
+      let n : length m ≡ number two m 1 + 3 + 68 * votes m = votes-length (votes m) m (number two m 1 + 3) (certificate-laid m (d .laidDown) .run) in
+      let s : end - 3 ≡ number two m 1 = omega arith in
+      record {
+        laidDown = d .laidDown;
+        least = omega arith;
+        short = omega arith;
+        body = ap (cut m 3) s;
+        first = omega arith;
+        count = ap (λ (k : ℕ). (length m - k) / 68) q;
+        room = omega arith;
+      }
+
+  pub not-opened : end ≡ lost → laid m certificateFields ≡ false
+  not-opened h = not-enclosed m 0x20 (wantAll 0x21 65 ∷ []) end e h
+
+-- no values but the first: what was refused or given is told by the number and that one
+pub count-refused : (n : ℕ) (said : Said) → refuses n ≡ countOf said → refuses n ≡ said
+count-refused n said e = λ i. record { number = ap (λ (s : Said). s .number) e i; values = none (said .values) (ap (λ (s : Said). s .values) e) i }
+  where
+    none : (vs : List ℕ) → [] ≡ take 1 vs → [] ≡ vs
+    none [] z = refl
+    none (v ∷ vs) z = absurd (let one : _≡_ {A = ℕ} 0 1 = cc in omega arith)
+
+pub count-given : (n : ℕ) (said : Said) → gives (n ∷ []) ≡ countOf said → gives (n ∷ drop 1 (said .values)) ≡ said
+count-given n said e = λ i. record { number = ap (λ (s : Said). s .number) e i; values = more (said .values) (ap (λ (s : Said). s .values) e) i }
+  where
+    more : (vs : List ℕ) → n ∷ [] ≡ take 1 vs → n ∷ drop 1 vs ≡ vs
+    more [] z = absurd (let one : _≡_ {A = ℕ} 0 1 = cc in omega arith)
+    more (v ∷ vs) z = ap (λ (l : List ℕ). l ++ vs) z

@@ -1,22 +1,23 @@
 -- What the values of a reader's answer tell: the very payment or funding order of a message that has it. Assumes nothing.
 use Prim.Native.Nat.{ℕ, _+_, _≤_}
-use mathlib.Core.Path.{_≡_, ap, _∙_}
+use mathlib.Core.Path.{_≡_, sym, ap, _∙_}
 use mathlib.Core.Bool.{true}
-use mathlib.Core.List.{List, _∷_}
+use mathlib.Core.List.{List, [], _∷_}
 use native.Mathlib.Omega.{arith}
 use lib.ListN.{length, getD, drop}
 use lib.Dec.{eqb}
 use Rattle.octets.specs.Octets.{two, number}
+use Rattle.wire.specs.Numbers.{isFaults}
 use Rattle.wire.specs.Fields.{laid}
 use Rattle.wire.specs.Messages.{bodyFields, payment, isPayment, certificateFields, inside, fundingFields, funding, isFunding}
-use Rattle.wire.specs.Votes.{Committee, known, rising, good, votes, signersIn}
+use Rattle.wire.specs.Votes.{Committee, committee, known, rising, good, votes, signersIn}
 use Rattle.wire.specs.Refusals.{Said, gives, paymentValues, fundingValues}
-use Rattle.wire.specs.Readers.{readPayment, isBody, readOrderPayment, isOrder, readFunding, judgedBy}
+use Rattle.wire.specs.Readers.{readPayment, isBody, readOrderPayment, isOrder, readFunding, judgedBy, judged, countOf}
 use Rattle.wire.specs.declared.kinds.Payment.{Payment}
 use Rattle.wire.specs.declared.kinds.Funding.{Funding}
 use Rattle.wire.proofs.FieldLaws.{length-cut}
 use Rattle.wire.proofs.Laid.{order-laid, body-laid}
-use Rattle.messages.proofs.Onward.{gives-held, payment-read, order-read}
+use Rattle.messages.proofs.Onward.{gives-held, payment-read, order-read, count-given}
 
 -- a payment from its values
 abbrev pub paymentOf : List ℕ → Payment
@@ -73,15 +74,17 @@ funding-told o m e =
     let s : o ≡ funding m = funding-same o (funding m) (q .1) in
     (s, ap isFunding s ∙ q .0)
 
--- what a judged certificate tells: its votes and its payment
-pub record Judged (m : List ℕ) (votes : ℕ) (p : Payment) : Type 0 where
-  pub said : p ≡ payment (inside m)
-  pub inRange : isPayment p ≡ true
-  pub count : votes ≡ length (signersIn m)
+-- what the values of a judged certificate are: it has its fields, and they are the number of its votes and its payment
+pub record Found (m : List ℕ) (n : ℕ) (vs : List ℕ) : Type 0 where
+  pub laidDown : laid m certificateFields ≡ true
+  pub formed : laid (inside m) bodyFields ≡ true
+  pub inRange : isPayment (payment (inside m)) ≡ true
+  pub count : n ≡ length (signersIn m)
+  pub values : vs ≡ paymentValues (payment (inside m))
 
-pub judged-told : (c : Committee) (m verdicts : List ℕ) (n : ℕ) (p : Payment) → gives (n ∷ paymentValues p) ≡ judgedBy c m verdicts → Judged m n p
+pub judged-found : (c : Committee) (m verdicts : List ℕ) (n : ℕ) (vs : List ℕ) → gives (n ∷ vs) ≡ judgedBy c m verdicts → Found m n vs
 unfolding judgedBy
-judged-told c m verdicts n p e =
+judged-found c m verdicts n vs e =
     let t₁ = gives-held (laid m certificateFields) 1 _ e in
     let t₂ = gives-held (laid (inside m) bodyFields) 1 _ (t₁ .1) in
     let t₃ = gives-held (isPayment (payment (inside m))) 2 _ (t₂ .1) in
@@ -90,5 +93,30 @@ judged-told c m verdicts n p e =
     let t₆ = gives-held (rising (signersIn m)) 6 _ (t₅ .1) in
     let t₇ = gives-held (good verdicts) 4 _ (t₆ .1) in
     let t₈ = gives-held (c .quorum (signersIn m)) 7 _ (t₇ .1) in
-    let s : p ≡ payment (inside m) = ap (λ (s : Said). paymentOf (drop 1 (s .values))) (t₈ .1) in
-    record { said = s; inRange = ap isPayment s ∙ t₃ .0; count = ap (λ (s : Said). getD (s .values) 0 0) (t₈ .1) }
+    record {
+      laidDown = t₁ .0;
+      formed = t₂ .0;
+      inRange = t₃ .0;
+      count = ap (λ (s : Said). getD (s .values) 0 0) (t₈ .1);
+      values = ap (λ (s : Said). drop 1 (s .values)) (t₈ .1);
+    }
+
+-- the same of a certificate of which the number of its votes was told
+pub counted-found : (f : ℕ) (m verdicts : List ℕ) (n : ℕ) → gives (n ∷ []) ≡ countOf (judged f m verdicts)
+    → Found m n (drop 1 (judged f m verdicts .values)) × (gives (n ∷ paymentValues (payment (inside m))) ≡ judged f m verdicts)
+counted-found f m verdicts n e =
+    let g = count-given n (judged f m verdicts) e in
+    let d = judged-found (committee f) m verdicts n _ (gives-held (isFaults f) 2 _ g .1) in
+    (d, ap (λ (vs : List ℕ). gives (n ∷ vs)) (sym (d .values)) ∙ g)
+
+-- what a judged certificate tells: its votes and its payment
+pub record Judged (m : List ℕ) (votes : ℕ) (p : Payment) : Type 0 where
+  pub said : p ≡ payment (inside m)
+  pub inRange : isPayment p ≡ true
+  pub count : votes ≡ length (signersIn m)
+
+pub judged-told : (c : Committee) (m verdicts : List ℕ) (n : ℕ) (p : Payment) → gives (n ∷ paymentValues p) ≡ judgedBy c m verdicts → Judged m n p
+judged-told c m verdicts n p e =
+    let d = judged-found c m verdicts n (paymentValues p) e in
+    let s : p ≡ payment (inside m) = ap paymentOf (d .values) in
+    record { said = s; inRange = ap isPayment s ∙ d .inRange; count = d .count }

@@ -1,11 +1,11 @@
 // Certificates: a body and the votes of a quorum.
 ghost use mathlib.Core.Path.{_≡_};
-ghost use Prim.Native.Nat.{_+_};
-ghost use Rattle.wire.specs.Fields.{need, laid, lost, size};
-ghost use Rattle.wire.specs.Messages.{certificateFields};
+ghost use mathlib.Core.Bool.{true};
+ghost use Rattle.wire.specs.Fields.{laid};
+ghost use Rattle.wire.specs.Messages.{bodyFields, payment, certificateFields, inside};
 ghost use Rattle.wire.specs.Refusals.{certificateSaid};
-ghost use Rattle.wire.specs.Readers.{readCertificate, judged};
-ghost use Rattle.messages.specs.Steps.{certificateBodySaid, certificateBody, votedFor};
+ghost use Rattle.wire.specs.Readers.{readCertificate, judged, countOf};
+ghost use Rattle.votes.specs.Tally.{votesSaid};
 use crate::body;
 use crate::order;
 use votes::VotesAnswer;
@@ -13,83 +13,71 @@ use wire::answers::BodyAnswer;
 use wire::answers::CertificateAnswer;
 use wire::answers::Refusal;
 use wire::fields;
-use wire::fields::Plan;
-use wire::fields::Want;
 use wire::kinds::Payment;
+use wire::layouts;
 
-// The end of the body's field where the message is laid out as a certificate, or LOST.
-pub(crate) fn certificate_end(message: &[u8]) -> usize
-    ensures { λ r. ⌜ r ≡ need (laid (now (message .entry)) certificateFields) lost (3 + size (now (message .entry)) 0) ⌝ }
+// The payment inside a certificate that has its fields.
+pub fn payment(message: &[u8]) -> Payment
+    requires { ⌜ (laid (now message) certificateFields ≡ true) × (laid (inside (now message)) bodyFields ≡ true) ⌝ }
+    ensures { λ r. ⌜ r ≡ payment (inside (now (message .entry))) ⌝ }
 {
-    let plan = Plan {
-        a: Want::one(0x20, 25, 57),
-        b: Want::all(0x21, votes::VOTE),
-        c: Want::none(),
-        d: Want::none(),
-        e: Want::none(),
-    };
-    order::enclosed(message, plan)
-}
-
-// A certificate's payment and where its votes start.
-pub enum CertificateBody {
-    Body(Payment, usize),
-    Refused(Refusal),
-}
-
-fn certificate_body(f: u64, message: &[u8]) -> CertificateBody
-    ensures { λ r. ⌜ certificateBodySaid r ≡ certificateBody f (now (message .entry)) ⌝ }
-{
-    if f > 5 {
-        return CertificateBody::Refused(Refusal::OutOfRange);
-    }
-    let end = certificate_end(message);
-    if end == fields::LOST {
-        return CertificateBody::Refused(Refusal::Malformed);
-    }
-    match body::read_payment(octets::cut(message, 3, end - 3)) {
-        BodyAnswer::Refused(refusal) => CertificateBody::Refused(refusal),
-        BodyAnswer::Pays(payment) => CertificateBody::Body(payment, end),
-    }
-}
-
-// The payment with the number of its voters, or what the votes were refused for.
-fn certified(payment: Payment, votes: VotesAnswer) -> CertificateAnswer
-    ensures { λ r. ⌜ r ≡ votedFor payment votes ⌝ }
-{
-    match votes {
-        VotesAnswer::Refused(refusal) => CertificateAnswer::Refused(refusal),
-        VotesAnswer::Counted(machines) => CertificateAnswer::Certifies(payment, machines),
-    }
+    body::payment_in(order::enclosed(message))
 }
 
 // The certificate reader judges no verdicts.
 pub fn read_certificate(f: u64, message: &[u8]) -> CertificateAnswer
     ensures { λ r. ⌜ certificateSaid r ≡ readCertificate f (now (message .entry)) ⌝ }
 {
-    match certificate_body(f, message) {
-        CertificateBody::Refused(refusal) => CertificateAnswer::Refused(refusal),
-        CertificateBody::Body(payment, end) => {
+    if f > 5 {
+        return CertificateAnswer::Refused(Refusal::OutOfRange);
+    }
+    let end = layouts::certificate_end(message);
+    if end == fields::LOST {
+        return CertificateAnswer::Refused(Refusal::Malformed);
+    }
+    match body::read_payment(octets::cut(message, 3, end - 3)) {
+        BodyAnswer::Refused(refusal) => CertificateAnswer::Refused(refusal),
+        BodyAnswer::Pays(payment) => {
             let n = (message.len() - end) / votes::VOTE_FIELD;
-            let t = votes::tally_of(message, end + 3, votes::VOTE_FIELD, n, 3 * f);
-            certified(payment, votes::judge_votes(f, t, true))
+            match votes::count_votes(f, message, end + 3, votes::VOTE_FIELD, n) {
+                VotesAnswer::Refused(refusal) => CertificateAnswer::Refused(refusal),
+                VotesAnswer::Counted(machines) => CertificateAnswer::Certifies(payment, machines),
+            }
         }
     }
 }
 
-// A certificate judged with the host's verdicts on its votes, one for each.
+// A certificate judged with the host's verdicts on its votes, one for each: how many machines voted, without the payment.
+pub fn judge(f: u64, message: &[u8], verdicts: &[u8]) -> VotesAnswer
+    ensures { λ r. ⌜ votesSaid r ≡ countOf (judged f (now (message .entry)) (now (verdicts .entry))) ⌝ }
+{
+    if f > 5 {
+        return VotesAnswer::Refused(Refusal::OutOfRange);
+    }
+    let end = layouts::certificate_end(message);
+    if end == fields::LOST {
+        return VotesAnswer::Refused(Refusal::Malformed);
+    }
+    let body = octets::cut(message, 3, end - 3);
+    if !layouts::body_laid(body) {
+        return VotesAnswer::Refused(Refusal::Malformed);
+    }
+    let payment = body::payment_in(body);
+    if !payment.in_range() {
+        return VotesAnswer::Refused(Refusal::OutOfRange);
+    }
+    if verdicts.len() != (message.len() - end) / votes::VOTE_FIELD {
+        return VotesAnswer::Refused(Refusal::VerdictCount);
+    }
+    votes::judge_votes(f, message, end + 3, votes::VOTE_FIELD, verdicts)
+}
+
+// The same with the payment.
 pub fn judge_certificate(f: u64, message: &[u8], verdicts: &[u8]) -> CertificateAnswer
     ensures { λ r. ⌜ certificateSaid r ≡ judged f (now (message .entry)) (now (verdicts .entry)) ⌝ }
 {
-    match certificate_body(f, message) {
-        CertificateBody::Refused(refusal) => CertificateAnswer::Refused(refusal),
-        CertificateBody::Body(payment, end) => {
-            let n = (message.len() - end) / votes::VOTE_FIELD;
-            if verdicts.len() != n {
-                return CertificateAnswer::Refused(Refusal::VerdictCount);
-            }
-            let t = votes::tally_of(message, end + 3, votes::VOTE_FIELD, n, 3 * f);
-            certified(payment, votes::judge_votes(f, t, votes::all_good(verdicts)))
-        }
+    match judge(f, message, verdicts) {
+        VotesAnswer::Refused(refusal) => CertificateAnswer::Refused(refusal),
+        VotesAnswer::Counted(machines) => CertificateAnswer::Certifies(payment(message), machines),
     }
 }

@@ -9,6 +9,7 @@ use Rattle.records.specs.declared.answers.OrderAnswer.{OrderAnswer}
 use Rattle.records.specs.declared.answers.ConfirmAnswer.{ConfirmAnswer}
 use Rattle.records.specs.declared.answers.CreditAnswer.{CreditAnswer}
 use Rattle.records.specs.declared.answers.AccountAnswer.{AccountAnswer}
+use Rattle.records.specs.declared.answers.StandingAnswer.{StandingAnswer}
 
 -- vote, new
 abbrev pub voteNew : Said
@@ -56,3 +57,15 @@ unshown n = record { answer = refuses n; balance = pos 0 }
 abbrev pub accountShown : AccountAnswer → AccountShown
 accountShown (AccountAnswer.Shows r) = record { answer = gives (bit (r .used) ∷ r .next .0 ∷ r .free ∷ []); balance = r .balance }
 accountShown (AccountAnswer.Refused r) = unshown (refusalNumber r)
+
+-- in the message, or in the state: 0 or 1, place, length
+abbrev pub inMessage : ℕ → ℕ → Said
+inMessage place n = gives (0 ∷ place ∷ n ∷ [])
+
+abbrev pub inState : ℕ → ℕ → Said
+inState place n = gives (1 ∷ place ∷ n ∷ [])
+
+-- the answer on where the standing body lies
+abbrev pub standingSaid : StandingAnswer → Said
+standingSaid (StandingAnswer.InMessage at) = inMessage (at .place) (at .length)
+standingSaid (StandingAnswer.InState at) = inState (at .place) (at .length)

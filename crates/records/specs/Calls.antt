@@ -6,12 +6,12 @@ use mathlib.Core.Bool.{Bool, _&&_, _||_, cond}
 use mathlib.Core.List.{List, [], _∷_}
 use lib.ListN.{length}
 use lib.Dec.{leb, ltb, eqb}
-use Rattle.octets.specs.Octets.{same}
+use Rattle.octets.specs.Octets.{two, number, same}
 use Rattle.wire.specs.Numbers.{isMachine, isAccount}
 use Rattle.wire.specs.Fields.{need}
 use Rattle.wire.specs.Messages.{payment, inside, funding}
 use Rattle.wire.specs.Votes.{signersIn, good}
-use Rattle.wire.specs.Refusals.{gives}
+use Rattle.wire.specs.Refusals.{Said, gives}
 use Rattle.wire.specs.Readers.{isOrder, readOrderPayment, readFunding, judgedBy}
 use Rattle.wire.specs.declared.kinds.Payment.{Payment}
 use Rattle.wire.specs.declared.kinds.Funding.{Funding}
@@ -20,8 +20,8 @@ use Rattle.states.specs.Outcomes.{Outcome, outcome, refused, unless, done}
 use Rattle.records.specs.declared.record.Record.{Record}
 use Rattle.records.specs.Balances.{nought, highest, signed, free}
 use Rattle.records.specs.Records.{bit, holding, paid, credited}
-use Rattle.records.specs.States.{Rules, stateLength, isState, recordOf, isFormed, pendingOf, withRecord, freshState}
-use Rattle.records.specs.Answers.{voteNew, voteRepeated, confirmed, already, AccountShown, unshown}
+use Rattle.records.specs.States.{Rules, stateLength, isState, place, recordOf, isFormed, pendingOf, withRecord, freshState}
+use Rattle.records.specs.Answers.{voteNew, voteRepeated, confirmed, already, AccountShown, unshown, inMessage, inState}
 
 -- making a fresh state refuses a wrong length (16), then f or own number out of range (2)
 unfoldable pub fresh : Rules → List ℕ → ℕ → ℕ → Outcome
@@ -135,3 +135,16 @@ standing rules m s =
     need (isState rules s) []
     (need (isOrder m) []
     (standingOn rules m s (payment (inside m) .sender .0)))
+
+-- where it lies: a pending body behind the first twelve bytes of its record, the message's body behind the first three of the message
+unfoldable pub standingOnAt : Rules → List ℕ → List ℕ → ℕ → Said
+standingOnAt rules m s a =
+    need (isFormed rules s a) (inMessage 0 0)
+    (cond (ltb 0 (length (pendingOf rules s a))) (inState (place rules a + 12) (length (pendingOf rules s a))) (inMessage 3 (number two m 1)))
+
+-- the empty part is the message's, at its start
+unfoldable pub standingAt : Rules → List ℕ → List ℕ → Said
+standingAt rules m s =
+    need (isState rules s) (inMessage 0 0)
+    (need (isOrder m) (inMessage 0 0)
+    (standingOnAt rules m s (payment (inside m) .sender .0)))

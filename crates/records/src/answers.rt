@@ -1,5 +1,6 @@
 // What the calls on a machine answer.
 use wire::answers::Refusal;
+use wire::answers::Stretch;
 use wire::kinds::Sequence;
 
 pub enum OrderAnswer {
@@ -31,4 +32,10 @@ pub struct Reading {
 pub enum AccountAnswer {
     Shows(Reading),
     Refused(Refusal),
+}
+
+// Where the body that stands for an order's sender lies.
+pub enum StandingAnswer {
+    InMessage(Stretch),
+    InState(Stretch),
 }

@@ -117,7 +117,7 @@ impl Record {
     }
 
     // Where the record of an account stands.
-    fn place(account: Account) -> usize
+    pub fn place(account: Account) -> usize
         requires { ⌜ account .0 ≤ 63 ⌝ }
         ensures { λ r. ⌜ (r ≡ place base (account .0)) × (r ≤ 4544) ⌝ }
     {

@@ -32,11 +32,11 @@ body-written p note h =
     let f₃ = field 0x03 (bytes four (p .amount)) in
     let f₄ = field 0x04 (bytes two (p .sequence .0)) in
     ends-laid m bodyFields (omega (arith, length-body p note))
-    (ends-sized m [] (bytes one (p .sender .0)) (f₂ ++ (f₃ ++ (f₄ ++ field 0x05 note))) 0 0x01 1 4 (drop 1 bodyFields) refl refl refl refl (lit< tt) (lit< tt) (lit< tt)
-    ∙ ends-sized m f₁ (bytes one (p .kind) ++ bytes two (p .recipient)) (f₃ ++ (f₄ ++ field 0x05 note)) 4 0x02 3 10 (drop 2 bodyFields) refl refl refl refl (lit< tt) (lit< tt) (lit< tt)
-    ∙ ends-sized m (f₁ ++ f₂) (bytes four (p .amount)) (f₄ ++ field 0x05 note) 10 0x03 4 17 (drop 3 bodyFields) refl refl refl refl (lit< tt) (lit< tt) (lit< tt)
-    ∙ ends-sized m (f₁ ++ (f₂ ++ f₃)) (bytes two (p .sequence .0)) (field 0x05 note) 17 0x04 2 22 (drop 4 bodyFields) refl refl refl refl (lit< tt) (lit< tt) (lit< tt)
-    ∙ ends-last m (f₁ ++ (f₂ ++ (f₃ ++ f₄))) note 22 0x05 0 32 refl refl (lit< tt) (lit< tt) (omega arith) (omega arith) h)
+    (ends-sized m [] (bytes one (p .sender .0)) (f₂ ++ (f₃ ++ (f₄ ++ field 0x05 note))) 0 0x01 1 4 (drop 1 bodyFields) refl refl refl refl (lit< tt) (lit< tt)
+    ∙ ends-sized m f₁ (bytes one (p .kind) ++ bytes two (p .recipient)) (f₃ ++ (f₄ ++ field 0x05 note)) 4 0x02 3 10 (drop 2 bodyFields) refl refl refl refl (lit< tt) (lit< tt)
+    ∙ ends-sized m (f₁ ++ f₂) (bytes four (p .amount)) (f₄ ++ field 0x05 note) 10 0x03 4 17 (drop 3 bodyFields) refl refl refl refl (lit< tt) (lit< tt)
+    ∙ ends-sized m (f₁ ++ (f₂ ++ f₃)) (bytes two (p .sequence .0)) (field 0x05 note) 17 0x04 2 22 (drop 4 bodyFields) refl refl refl refl (lit< tt) (lit< tt)
+    ∙ ends-last m (f₁ ++ (f₂ ++ (f₃ ++ f₄))) note 22 0x05 0 32 refl refl (lit< tt) (omega arith) (omega arith) h)
 
 -- the values of a body that was written are read back
 pub payment-written : (p : Payment) (note : List ℕ) → PaymentFits p → payment (bodyBytes p note) ≡ p

@@ -111,7 +111,7 @@ certifies-laid f body run c =
     let front : 0 + 3 + length body ≡ length (field 0x20 body) = omega (arith, length-field 0x20 body) in
     let written : Votes n m (length (field 0x20 body)) = votes-written n (field 0x20 body) run (run-votes body run (c .whole) small) in
     ends-laid m certificateFields (certifies-size f body run c)
-    (ends-field m [] body (voteFields n run) 0 0x20 25 57 (wantAll 0x21 65 ∷ []) refl refl (lit< tt) (lit< tt) small (b .least) (b .most)
+    (ends-field m [] body (voteFields n run) 0 0x20 25 57 (wantAll 0x21 65 ∷ []) refl refl (lit< tt) small (b .least) (b .most)
     ∙ rw front (votes-pass n (length m) m (length (field 0x20 body)) (omega (arith, votes-length n m (length (field 0x20 body)) written)) written))
 
 -- what a body and votes that certify make is read back: the answer, the body and the votes

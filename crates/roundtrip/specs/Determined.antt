@@ -1,15 +1,15 @@
 -- Document 01, How tight the promises are: two outcomes that a contract of wire, messages or writing allows are equal. Each theorem has the name of its
 -- function and takes two results that meet the function's contract. Assumes nothing.
-use Prim.Native.Nat.{ℕ, zero, suc}
+use Prim.Native.Nat.{ℕ, zero, suc, _+_}
 use mathlib.Core.Path.{_≡_, refl, sym, ap, _∙_}
+use mathlib.Core.Bool.{Bool}
 use mathlib.Core.List.{List, [], _∷_}
 use lib.ListN.{getD, drop}
-use Rattle.wire.specs.Fields.{after}
+use Rattle.wire.specs.Fields.{need, Want, lost, size, laid}
+use Rattle.wire.specs.Messages.{bodyFields, orderFields, certificateFields, fundingFields}
 use Rattle.wire.specs.Refusals.{Said, refusalNumber, bodySaid, fundingSaid, certificateSaid, writeSaid}
 use Rattle.wire.specs.Readers as readers
 use Rattle.wire.specs.Writers.{Written, written, writeBody, writeOrder, writeFunding, writeCertificate}
-use Rattle.wire.specs.declared.fields.Plan.{Plan}
-use Rattle.wire.specs.declared.fields.Places.{Places}
 use Rattle.wire.specs.declared.kinds.Payment.{Payment}
 use Rattle.wire.specs.declared.kinds.Funding.{Funding}
 use Rattle.wire.specs.declared.answers.Refusal.{Refusal}
@@ -19,7 +19,6 @@ use Rattle.wire.specs.declared.answers.CertificateAnswer.{CertificateAnswer}
 use Rattle.wire.specs.declared.answers.WriteAnswer.{WriteAnswer}
 use Rattle.wire.specs.declared.answers.BodyRead.{BodyRead}
 use Rattle.wire.specs.declared.answers.OrderRead.{OrderRead}
-use Rattle.messages.proofs.Passing.{linked}
 use Rattle.messages.proofs.Told.{paymentOf, fundingOf}
 
 -- a function with a way back is injective
@@ -104,16 +103,25 @@ orderShown-injective a b e =
 determined : {A B : Type 0} (shown : A → B) → ((a b : A) → shown a ≡ shown b → a ≡ b) → (x : B) (r s : A) → shown r ≡ x → shown s ≡ x → r ≡ s
 determined shown injective x r s p q = injective r s (p ∙ sym q)
 
--- the places that the fields of a plan end at
-abbrev Read : List ℕ → Plan → Places → Type 0
-Read message plan r =
-    (r .a ≡ after message 0 (plan .a)) × (r .b ≡ after message (r .a) (plan .b)) × (r .c ≡ after message (r .b) (plan .c))
-    × (r .d ≡ after message (r .c) (plan .d)) × (r .e ≡ after message (r .d) (plan .e))
+-- the same where the outcome itself is given
+equal : {A : Type 0} (x r s : A) → r ≡ x → s ≡ x → r ≡ s
+equal = determined (λ r. r) (λ r s e. e)
 
-pub read-fields : (message : List ℕ) (plan : Plan) (r s : Places) → Read message plan r → Read message plan s → r ≡ s
-read-fields message plan r s p q =
-    linked message r (plan .a) (plan .b) (plan .c) (plan .d) (plan .e) (p .0) (p .1) (p .2) (p .3) (p .4)
-    ∙ sym (linked message s (plan .a) (plan .b) (plan .c) (plan .d) (plan .e) (q .0) (q .1) (q .2) (q .3) (q .4))
+pub body-laid : (body : List ℕ) (r s : Bool) → r ≡ laid body bodyFields → s ≡ laid body bodyFields → r ≡ s
+body-laid body = equal (laid body bodyFields)
+
+pub funding-laid : (message : List ℕ) (r s : Bool) → r ≡ laid message fundingFields → s ≡ laid message fundingFields → r ≡ s
+funding-laid message = equal (laid message fundingFields)
+
+-- the end of the first field of a message with these fields
+abbrev FirstEnd : List Want → List ℕ → ℕ
+FirstEnd fields message = need (laid message fields) lost (3 + size message 0)
+
+pub order-end : (message : List ℕ) (r s : ℕ) → r ≡ FirstEnd orderFields message → s ≡ FirstEnd orderFields message → r ≡ s
+order-end message = equal (FirstEnd orderFields message)
+
+pub certificate-end : (message : List ℕ) (r s : ℕ) → r ≡ FirstEnd certificateFields message → s ≡ FirstEnd certificateFields message → r ≡ s
+certificate-end message = equal (FirstEnd certificateFields message)
 
 pub read-payment : (body : List ℕ) (r s : BodyAnswer) → bodySaid r ≡ readers.readPayment body → bodySaid s ≡ readers.readPayment body → r ≡ s
 read-payment body = determined bodySaid bodySaid-injective (readers.readPayment body)
@@ -142,7 +150,7 @@ judge-certificate f message verdicts = determined certificateSaid certificateSai
 
 -- the two parts of the message are equal as lists of bytes
 pub covered : (message r s : List ℕ) → r ≡ readers.covered message → s ≡ readers.covered message → r ≡ s
-covered message = determined (λ r. r) (λ r s e. e) (readers.covered message)
+covered message = equal (readers.covered message)
 
 -- two answers of a writer with the outputs after them
 writer : (w : Written) (r s : WriteAnswer) (o p : List ℕ) → written r o ≡ w → written s p ≡ w → (r ≡ s) × (o ≡ p)

@@ -29,9 +29,9 @@ funding-written o =
     let f₂ = field 0x31 (bytes one (o .account .0)) in
     let f₃ = field 0x32 (bytes four (o .amount)) in
     ends-laid m fundingFields (lit≤ tt)
-    (ends-sized m [] (bytes two (o .index .0)) (f₂ ++ f₃) 0 0x30 2 5 (drop 1 fundingFields) refl refl refl refl (lit< tt) (lit< tt) (lit< tt)
-    ∙ ends-sized m f₁ (bytes one (o .account .0)) f₃ 5 0x31 1 9 (drop 2 fundingFields) refl refl refl refl (lit< tt) (lit< tt) (lit< tt)
-    ∙ ends-last m (f₁ ++ f₂) (bytes four (o .amount)) 9 0x32 4 4 refl refl (lit< tt) (lit< tt) (lit< tt) (lit≤ tt) (lit≤ tt))
+    (ends-sized m [] (bytes two (o .index .0)) (f₂ ++ f₃) 0 0x30 2 5 (drop 1 fundingFields) refl refl refl refl (lit< tt) (lit< tt)
+    ∙ ends-sized m f₁ (bytes one (o .account .0)) f₃ 5 0x31 1 9 (drop 2 fundingFields) refl refl refl refl (lit< tt) (lit< tt)
+    ∙ ends-last m (f₁ ++ f₂) (bytes four (o .amount)) 9 0x32 4 4 refl refl (lit< tt) (lit< tt) (lit≤ tt) (lit≤ tt))
 
 -- the values of a funding order that was written are read back
 funding-values : (o : Funding) → isFunding o ≡ true → funding (fundingBytes o) ≡ o

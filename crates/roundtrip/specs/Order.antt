@@ -32,8 +32,8 @@ module _ (p : Payment) (note signature : List ℕ) (short : length note ≤ 32) 
       let body = bodyBytes p note in
       let n : length body ≡ 25 + length note = length-body p note in
       ends-laid m orderFields (omega (arith, length-order p note signature s))
-      (ends-field m [] body (field 0x11 signature) 0 0x10 25 57 (drop 1 orderFields) refl refl (lit< tt) (lit< tt) (omega arith) (omega arith) (omega arith)
-      ∙ ends-last m (field 0x10 body) signature (3 + length body) 0x11 64 64 refl (length-field 0x10 body) (lit< tt) (lit< tt) (omega arith) (omega arith) (omega arith))
+      (ends-field m [] body (field 0x11 signature) 0 0x10 25 57 (drop 1 orderFields) refl refl (lit< tt) (omega arith) (omega arith) (omega arith)
+      ∙ ends-last m (field 0x10 body) signature (3 + length body) 0x11 64 64 refl (length-field 0x10 body) (lit< tt) (omega arith) (omega arith) (omega arith))
 
   -- the length of the body inside
   size-order : number two (orderBytes p note signature) 1 ≡ length (bodyBytes p note)

@@ -1,6 +1,6 @@
 -- What a turn of a loop over votes or verdicts shows: the tally and the test go on with the rest of the list. Assumes nothing.
 use Prim.Native.Nat.{ℕ, zero, suc, _+_, _-_, _*_, _%_, _^_, _≤_, _<_}
-use mathlib.Core.Bool.{Bool, true, false, _&&_, and-true, and-false, and-assoc}
+use mathlib.Core.Bool.{Bool, true, false, _&&_, and-true, and-false, and-assoc, false≢true}
 use mathlib.Core.Path.{_≡_, refl, sym, ap, _∙_}
 use mathlib.Core.List.{List, [], _∷_}
 use native.Mathlib.Nat.{zero-add, add-comm, one-mul, mul-suc, lt-of-lt-of-le, two-pow-succ}
@@ -15,8 +15,11 @@ use lib.Count.{ones, ones-cat}
 use borrow.Author.Tests.{leb-true, le-leb, lt-leb, eq-eqb, ne-eqb}
 use Rattle.octets.specs.Octets.{one, number}
 use Rattle.wire.specs.Votes.{signers, known, rising, risingFrom, good}
-use Rattle.votes.specs.Tally.{Tallied, counted}
+use Rattle.wire.specs.Fields.{need}
+use Rattle.wire.specs.Refusals.{refuses}
+use Rattle.votes.specs.Tally.{Tallied, counted, AllSigned, enough, votesJudged, votesGiven}
 use Rattle.votes.specs.declared.Tally.{Tally}
+use Rattle.votes.specs.declared.Signed.{Signed}
 
 -- a machine above the last is unknown and has no bit
 pub counted-unknown : (t : Tally) (k last : ℕ) → last < k
@@ -53,8 +56,12 @@ pub record Counting (last : ℕ) (all : List ℕ) (t : Tally) (rest : List ℕ) 
   pub risingSoFar : rising all ≡ (t .rising && risingFrom (t .least) rest)
   pub bits : t .known ≡ true → t .rising ≡ true → (t .mask < 2 ^ t .least) × (ones (t .mask) + length rest ≡ length all)
 
+-- the tally of votes with each of which all is well
+abbrev pub fineTally : ℕ → ℕ → Tally
+fineTally least mask = record { known = true; rising = true; least = least; mask = mask }
+
 -- before the first vote all are left
-pub counting-none : (last : ℕ) (all : List ℕ) → Counting last all record { known = true; rising = true; least = 0; mask = 0 } all
+pub counting-none : (last : ℕ) (all : List ℕ) → Counting last all (fineTally 0 0) all
 unfolding ones
 counting-none last all = record { knownSoFar = refl; risingSoFar = refl; bits = λ _ _. (omega arith, zero-add _) }
 
@@ -79,6 +86,58 @@ counting-all last all t p =
     let knows : t .known ≡ known last all = sym (p .knownSoFar ∙ and-true _) in
     let rises : t .rising ≡ rising all = sym (p .risingSoFar ∙ and-true _) in
     record { allKnown = knows; allRising = rises; count = λ a b. omega (arith, p .bits (knows ∙ a) (rises ∙ b)) }
+
+-- a tally is judged by the machine numbers that it counts
+counted-need : (known rising ok : Bool) (f m n : ℕ) → (known ≡ true → rising ≡ true → m ≡ n)
+    → need known (refuses 5) (need rising (refuses 6) (need ok (refuses 4) (enough f m)))
+    ≡ need known (refuses 5) (need rising (refuses 6) (need ok (refuses 4) (enough f n)))
+counted-need true true ok f m n e = rw (e refl refl)
+counted-need true false ok f m n e = refl
+counted-need false rising ok f m n e = refl
+
+pub tally-given : (f : ℕ) (t : Tally) (ok : Bool) (ks : List ℕ) → Tallied t (3 * f) ks → votesJudged f t ok ≡ votesGiven f ks ok
+unfolding votesJudged votesGiven
+tally-given f t ok ks tallied =
+    rw (tallied .allKnown, tallied .allRising) (counted-need (known (3 * f) ks) (rising ks) ok f (ones (t .mask)) (length ks) (tallied .count))
+
+-- a vote with which all is well
+pub counting-fine : {last least mask k : ℕ} {all rest : List ℕ} → Counting last all (fineTally least mask) (k ∷ rest) → k ≤ last → least ≤ k → last < 16
+    → Counting last all (fineTally (k + 1) (bitOr mask ((1 * 2 ^ k) % 65536))) rest
+counting-fine {last} {least} {mask} {k} {all} {rest} p h r l =
+    let e = rw (le-leb least k r) at (counted-known (fineTally least mask) k last h l) in
+    rw e (counting-more last k all rest (fineTally least mask) p)
+
+-- a pass over machines and verdicts ends at a vote with which it is not
+module _ {last mask : ℕ} {all verdicts : List ℕ} where
+  stops : (known last all && (rising all && good verdicts)) ≡ false → AllSigned record { fine = false; mask = mask } last all verdicts
+  stops e = record { allFine = sym e; count = λ z. absurd (false≢true z) }
+
+  pub unknown-stops : {least k : ℕ} {rest : List ℕ} → Counting last all (fineTally least mask) (k ∷ rest) → last < k
+      → AllSigned record { fine = false; mask = mask } last all verdicts
+  unfolding known
+  unknown-stops {k = k} p h = stops (rw (p .knownSoFar, lt-leb k last h))
+
+  pub falling-stops : {least k : ℕ} {rest : List ℕ} → Counting last all (fineTally least mask) (k ∷ rest) → k < least
+      → AllSigned record { fine = false; mask = mask } last all verdicts
+  unfolding risingFrom
+  falling-stops {least} {k} p h = stops (rw (p .risingSoFar, lt-leb least k h) (and-false (known last all)))
+
+  pub verdict-stops : good verdicts ≡ false → AllSigned record { fine = false; mask = mask } last all verdicts
+  verdict-stops e = stops (simp (e, and-false))
+
+-- no vote is left, and all was well with each
+pub all-fine : {last least mask : ℕ} {all verdicts : List ℕ} → Counting last all (fineTally least mask) [] → good verdicts ≡ true
+    → AllSigned record { fine = true; mask = mask } last all verdicts
+unfolding known risingFrom
+all-fine p e = record { allFine = sym (simp (p .knownSoFar, p .risingSoFar, e)); count = λ _. omega (arith, p .bits refl refl) }
+
+-- where all is well with each vote, their number decides
+pub signed-given : (f : ℕ) (t : Signed) (ks verdicts : List ℕ) → AllSigned t (3 * f) ks verdicts → t .fine ≡ true → enough f (ones (t .mask)) ≡ votesGiven f ks (good verdicts)
+unfolding votesGiven
+signed-given f t ks verdicts signed e =
+    let a = both-true (known (3 * f) ks) _ (sym (signed .allFine) ∙ e) in
+    let b = both-true (rising ks) (good verdicts) (a .1) in
+    rw (a .0, b .0, b .1, signed .count e)
 
 -- the signers left at a turn are the machine at its place and those after it
 pub signers-more : (s : List ℕ) (place step : ℕ) {i n : ℕ} → i < n

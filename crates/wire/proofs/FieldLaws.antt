@@ -7,12 +7,11 @@ use native.Mathlib.Omega.{arith}
 use lib.ListN.{length, getD, take, drop, length-append, take-append-drop, length-take, length-drop}
 use lib.Dec.{leb, eqb, lit<}
 use lib.Seq.{take-add, drop-drop, take-at, drop-at, getD-drop, getD-append-add}
-use borrow.Author.Tests.{leb-true, eqb-true, le-leb, lt-leb, eq-eqb, ne-eqb}
+use borrow.Author.Tests.{leb-true, eqb-true, eqb-false, le-leb, lt-leb, eq-eqb, ne-eqb}
 use Rattle.octets.specs.Octets.{one, two, span, number, bytes, cut}
 use Rattle.octets.proofs.Laws.{length-bytes, number-bytes, put-number, cut-put}
 use Rattle.wire.specs.Numbers.{isMessage}
-use Rattle.wire.specs.Fields.{need, field, lost, want, size, past, pastAll, after, ends, laid}
-use Rattle.wire.specs.declared.fields.Want.{Want}
+use Rattle.wire.specs.Fields.{need, field, Want, want, lost, size, past, pastAll, after, ends, laid}
 
 -- every element is a byte
 abbrev pub Bytes : List ℕ → Type 0
@@ -69,10 +68,6 @@ pub record Passed (m : List ℕ) (at tag least most : ℕ) : Type 0 where
   pub whole : at + 3 + size m at ≤ length m
   pub place : past m at tag least most ≡ at + 3 + size m at
 
--- a field whose value has n bytes ends n + 3 bytes on
-pub sized-ends : (m : List ℕ) (at tag n next : ℕ) → Passed m at tag n n → at + 3 + n ≡ next → past m at tag n n ≡ next
-sized-ends m at tag n next p e = omega arith
-
 -- a test that did not lose the place held, and what follows it did not lose the place either
 kept : (t : Bool) (place : ℕ) → (need t lost place ≡ lost → ⊥) → (t ≡ true) × (place ≡ lost → ⊥)
 kept true place h = (refl, h)
@@ -92,6 +87,14 @@ passed m at tag least most h =
     let s : size m at ≤ most = leb-true _ _ (d .0) in
     let w : at + 3 + size m at ≤ length m = leb-true _ _ (e .0) in
     record { tagged = t; long = l; short = s; whole = w; place = passes m at tag least most t l s w }
+
+-- where no field is as laid down the place is lost
+pub not-passed : (m : List ℕ) (at tag least most : ℕ) → (Passed m at tag least most → ⊥) → past m at tag least most ≡ lost
+not-passed m at tag least most h = go (eqb (past m at tag least most) lost) refl
+  where
+    go : (t : Bool) → eqb (past m at tag least most) lost ≡ t → past m at tag least most ≡ lost
+    go true e = eqb-true _ _ e
+    go false e = absurd (h (passed m at tag least most (eqb-false _ _ e)))
 
 -- the bytes of a number that was read are those that it was read from
 pub bytes-number : (k : ℕ) (m : List ℕ) (at : ℕ) → Bytes m → at + 2 ^ k ≤ length m → bytes k (number k m at) ≡ cut m at (2 ^ k)
@@ -138,16 +141,25 @@ pub laid-ends : (m : List ℕ) (fields : List Want) → laid m fields ≡ true �
 unfolding laid
 laid-ends m fields h = let t = both (isMessage (length m)) _ h in (leb-true _ _ (t .0), eqb-true _ _ (t .1))
 
+-- what `whole` says of the place where the fields end
+pub whole-laid : (m : List ℕ) (fields : List Want) (end : ℕ) → end ≡ ends m 0 fields → (isMessage (length m) && eqb end (length m)) ≡ laid m fields
+unfolding laid
+whole-laid m fields end e = ap (λ (n : ℕ). isMessage (length m) && eqb n (length m)) e
+
+-- a test that leads to what cannot be fails
+pub fails : (t : Bool) → (t ≡ true → ⊥) → t ≡ false
+fails true h = absurd (h refl)
+fails false h = refl
+
 -- and one whose fields end where it ends, not too long, has its fields
 pub ends-laid : (m : List ℕ) (fields : List Want) → length m ≤ 1148 → ends m 0 fields ≡ length m → laid m fields ≡ true
 unfolding laid
 ends-laid m fields l e = rw (le-leb (length m) 1148 l, eq-eqb (ends m 0 fields) (length m) e)
 
--- choices between the same
-same-cond : (t : Bool) (n : ℕ) (u : Bool) → cond u n (cond t n n) ≡ n
-same-cond t n true = refl
-same-cond true n false = refl
-same-cond false n false = refl
+-- a choice between the same
+same-cond : (t : Bool) (n : ℕ) → cond t n n ≡ n
+same-cond true n = refl
+same-cond false n = refl
 
 -- no field stands where three bytes are not left
 pub past-end : (m : List ℕ) (at tag least most : ℕ) → length m < at + 3 → past m at tag least most ≡ lost
@@ -166,7 +178,7 @@ after-lost : (m : List ℕ) (w : Want) → length m < lost → after m lost w �
 unfolding after
 after-lost m w f =
     rw (all-lost (length m) m lost (w .tag) (w .least) (w .most) f f, past-end m lost (w .tag) (w .least) (w .most) (omega arith))
-    (same-cond (w .many) lost (eqb (w .tag) 0))
+    (same-cond (w .many) lost)
 
 -- so it does over any fields
 ends-lost : (m : List ℕ) (fields : List Want) → length m < lost → ends m lost fields ≡ lost
@@ -175,44 +187,44 @@ ends-lost m [] f = refl
 ends-lost m (w ∷ ws) f = rw (after-lost m w f) (ends-lost m ws f)
 
 -- the first field of a message that ends as it should is as laid down, and the others stand behind it
-pub first-field : (m : List ℕ) (at tag least most : ℕ) (fields : List Want) → length m ≤ 1148 → 0 < tag → ends m at (want tag least most ∷ fields) ≡ length m → Passed m at tag least most × (ends m (at + 3 + size m at) fields ≡ length m)
+pub first-field : (m : List ℕ) (at tag least most : ℕ) (fields : List Want) → length m ≤ 1148 → ends m at (want tag least most ∷ fields) ≡ length m → Passed m at tag least most × (ends m (at + 3 + size m at) fields ≡ length m)
 unfolding ends after
-first-field m at tag least most fields l t h =
-    let e : ends m (past m at tag least most) fields ≡ length m = rw (ne-eqb tag 0 (λ q. omega arith)) at h in
+first-field m at tag least most fields l h =
+    let e : ends m (past m at tag least most) fields ≡ length m = h in
     let p : Passed m at tag least most = passed m at tag least most (λ q. let z : lost ≡ length m = sym (ends-lost m fields (omega arith)) ∙ rw q at e in omega arith) in
     (p, rw (p .place) at e)
 
 -- the same of a field whose value has n bytes
-pub first-sized : (m : List ℕ) (at tag n next : ℕ) (fields : List Want) → length m ≤ 1148 → 0 < tag → at + 3 + n ≡ next → ends m at (want tag n n ∷ fields) ≡ length m → Passed m at tag n n × (ends m next fields ≡ length m)
-first-sized m at tag n next fields l t e h =
-    let r = first-field m at tag n n fields l t h in
+pub first-sized : (m : List ℕ) (at tag n next : ℕ) (fields : List Want) → length m ≤ 1148 → at + 3 + n ≡ next → ends m at (want tag n n ∷ fields) ≡ length m → Passed m at tag n n × (ends m next fields ≡ length m)
+first-sized m at tag n next fields l e h =
+    let r = first-field m at tag n n fields l h in
     let s : at + 3 + size m at ≡ next = omega (arith, r .0 .long, r .0 .short) in
     (r .0, rw s at (r .1))
 
 -- the last field ends where the message ends
-pub last-field : (m : List ℕ) (at tag least most : ℕ) → length m ≤ 1148 → 0 < tag → ends m at (want tag least most ∷ []) ≡ length m → Passed m at tag least most × (at + 3 + size m at ≡ length m)
+pub last-field : (m : List ℕ) (at tag least most : ℕ) → length m ≤ 1148 → ends m at (want tag least most ∷ []) ≡ length m → Passed m at tag least most × (at + 3 + size m at ≡ length m)
 unfolding ends
-last-field m at tag least most l t h = first-field m at tag least most [] l t h
+last-field m at tag least most l h = first-field m at tag least most [] l h
 
 -- past a field that was written the fields go on behind it
-pub ends-field : (m pre value rest : List ℕ) (at tag least most : ℕ) (fields : List Want) → m ≡ pre ++ (field tag value ++ rest) → length pre ≡ at → 0 < tag → tag < 256 → length value < 65536 → least ≤ length value → length value ≤ most → ends m at (want tag least most ∷ fields) ≡ ends m (at + 3 + length value) fields
+pub ends-field : (m pre value rest : List ℕ) (at tag least most : ℕ) (fields : List Want) → m ≡ pre ++ (field tag value ++ rest) → length pre ≡ at → tag < 256 → length value < 65536 → least ≤ length value → length value ≤ most → ends m at (want tag least most ∷ fields) ≡ ends m (at + 3 + length value) fields
 unfolding ends after
-ends-field m pre value rest at tag least most fields e a t₀ t v l h =
+ends-field m pre value rest at tag least most fields e a t v l h =
     let p : past m at tag least most ≡ at + 3 + length value = rw (e, ← a) (past-field pre value rest tag least most t v l h) in
-    rw (ne-eqb tag 0 (λ q. omega arith), p)
+    rw p
 
 -- the same of a field whose value must have the length that it has
-pub ends-sized : (m pre value rest : List ℕ) (at tag n next : ℕ) (fields : List Want) → m ≡ pre ++ (field tag value ++ rest) → length pre ≡ at → length value ≡ n → at + 3 + n ≡ next → 0 < tag → tag < 256 → n < 65536 → ends m at (want tag n n ∷ fields) ≡ ends m next fields
-ends-sized m pre value rest at tag n next fields e a v f t₀ t h =
+pub ends-sized : (m pre value rest : List ℕ) (at tag n next : ℕ) (fields : List Want) → m ≡ pre ++ (field tag value ++ rest) → length pre ≡ at → length value ≡ n → at + 3 + n ≡ next → tag < 256 → n < 65536 → ends m at (want tag n n ∷ fields) ≡ ends m next fields
+ends-sized m pre value rest at tag n next fields e a v f t h =
     let g : at + 3 + length value ≡ next = omega arith in
-    rw g at (ends-field m pre value rest at tag n n fields e a t₀ t (omega arith) (omega arith) (omega arith))
+    rw g at (ends-field m pre value rest at tag n n fields e a t (omega arith) (omega arith) (omega arith))
 
 -- a last field that was written ends where the message ends
-pub ends-last : (m pre value : List ℕ) (at tag least most : ℕ) → m ≡ pre ++ field tag value → length pre ≡ at → 0 < tag → tag < 256 → length value < 65536 → least ≤ length value → length value ≤ most → ends m at (want tag least most ∷ []) ≡ length m
+pub ends-last : (m pre value : List ℕ) (at tag least most : ℕ) → m ≡ pre ++ field tag value → length pre ≡ at → tag < 256 → length value < 65536 → least ≤ length value → length value ≤ most → ends m at (want tag least most ∷ []) ≡ length m
 unfolding ends
-ends-last m pre value at tag least most e a t₀ t v l h =
+ends-last m pre value at tag least most e a t v l h =
     let n : length m ≡ length pre + (3 + length value) = rw (e, length-append pre (field tag value), length-field tag value) in
-    ends-field m pre value [] at tag least most [] (rw (append-nil (field tag value)) e) a t₀ t v l h ∙ omega arith
+    ends-field m pre value [] at tag least most [] (rw (append-nil (field tag value)) e) a t v l h ∙ omega arith
 
 -- a stretch that was written behind a first part is read back
 pub cut-written : (m pre value rest : List ℕ) (at n : ℕ) → m ≡ pre ++ (value ++ rest) → length pre ≡ at → length value ≡ n → cut m at n ≡ value
@@ -228,22 +240,6 @@ bytes-take (suc n) (x ∷ m) b (suc i) = bytes-take n m (λ j. b (suc j)) i
 -- a stretch of bytes is bytes
 pub bytes-cut : (m : List ℕ) (at n : ℕ) → Bytes m → Bytes (cut m at n)
 bytes-cut m at n b = bytes-take n (drop at m) (λ i. rw (getD-drop at m i 0) (b (at + i)))
-
--- a bound below both ways of a test
-bounded : (k : ℕ) (t : Bool) (a x : ℕ) → k ≤ a → k ≤ x → k ≤ need t a x
-bounded k true a x p q = q
-bounded k false a x p q = p
-
--- the place after a field is ahead
-pub ahead : (m : List ℕ) (at tag least most : ℕ) → at < lost → at < past m at tag least most
-unfolding past
-ahead m at tag least most h =
-    let q : suc at ≤ at + 3 + size m at = omega arith in
-    bounded (suc at) (leb (at + 3) (length m)) _ _ h
-    (bounded (suc at) (eqb (number one m at) tag) _ _ h
-    (bounded (suc at) (leb least (size m at)) _ _ h
-    (bounded (suc at) (leb (size m at) most) _ _ h
-    (bounded (suc at) (leb (at + 3 + size m at) (length m)) _ _ h q))))
 
 -- the end is reached
 pub all-end : (n : ℕ) (m : List ℕ) (at tag least most : ℕ) → at ≡ length m → pastAll n m at tag least most ≡ at

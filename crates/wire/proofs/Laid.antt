@@ -1,20 +1,19 @@
 -- What each message's layout gives: its fields as laid down, where they end, and its length. Assumes nothing.
 use Prim.Native.Nat.{ℕ, zero, suc, _+_, _-_, _*_, _/_, _<_, _≤_}
-use mathlib.Core.Path.{_≡_, refl, _∙_}
-use mathlib.Core.Bool.{Bool, true, false, _||_, false≢true}
+use mathlib.Core.Path.{_≡_, refl}
+use mathlib.Core.Bool.{Bool, true, false}
 use mathlib.Core.List.{List, [], _∷_}
 use native.Mathlib.Omega.{arith}
 use native.Mathlib.Nat.{lt-irrefl}
 use lib.ListN.{length}
-use lib.Dec.{eqb, lit<}
-use borrow.Author.Tests.{eqb-true, le-leb, ne-eqb}
+use lib.Dec.{eqb}
+use borrow.Author.Tests.{eqb-true, le-leb}
 use Rattle.octets.specs.Octets.{two, number}
 use Rattle.wire.specs.Numbers.{isNote}
-use Rattle.wire.specs.Fields.{need, want, wantNone, lost, wantAll, size, past, pastAll, after, ends, laid}
+use Rattle.wire.specs.Fields.{need, Want, want, lost, wantAll, size, past, pastAll, after, ends, laid}
 use Rattle.wire.specs.Messages.{bodyFields, noteIn, orderFields, signatureIn, certificateFields, fundingFields}
 use Rattle.wire.specs.Votes.{votes}
-use Rattle.wire.specs.declared.fields.Want.{Want}
-use Rattle.wire.proofs.FieldLaws.{Passed, passed, sized-ends, first-field, first-sized, last-field, laid-ends, length-cut, all-lost}
+use Rattle.wire.proofs.FieldLaws.{Passed, passed, first-field, first-sized, last-field, laid-ends, length-cut, all-lost}
 
 -- a message laid down whose first field, of 25 to 57 bytes, ends at `end`
 pub record Enclosed (m : List ℕ) (fields : List Want) (end : ℕ) : Type 0 where
@@ -23,11 +22,6 @@ pub record Enclosed (m : List ℕ) (fields : List Want) (end : ℕ) : Type 0 whe
   pub least : 25 ≤ size m 0
   pub most : size m 0 ≤ 57
   pub whole : 3 + size m 0 ≤ length m
-
--- two that a test chooses are equal where they are equal once it holds
-pub need-same : {A : Type 0} (t : Bool) (failed x y : A) → (t ≡ true → x ≡ y) → need t failed x ≡ need t failed y
-need-same true failed x y h = h refl
-need-same false failed x y h = refl
 
 -- a place that a test gives, or lost: where it is not lost the test held, and where it is lost the test failed
 found : (t : Bool) (n end : ℕ) → end ≡ need t lost n → (end ≡ lost → ⊥) → (t ≡ true) × (end ≡ n)
@@ -39,13 +33,9 @@ missed true n end small e h = absurd (lt-irrefl lost (omega (arith, small refl))
 missed false n end small e h = refl
 
 -- a message laid down with a field of 25 to 57 bytes first ends that field behind its value
-module _ (m : List ℕ) (tag : ℕ) (others : List Want) (t : 0 < tag) where
-  first-ends : laid m (want tag 25 57 ∷ others) ≡ true → Passed m 0 tag 25 57
-  first-ends h = let e = laid-ends m (want tag 25 57 ∷ others) h in first-field m 0 tag 25 57 others (e .0) t (e .1) .0
-
-  pub first-place : need (laid m (want tag 25 57 ∷ others)) lost (after m 0 (want tag 25 57)) ≡ need (laid m (want tag 25 57 ∷ others)) lost (3 + size m 0)
-  unfolding after
-  first-place = need-same (laid m (want tag 25 57 ∷ others)) lost _ _ (λ h. rw (ne-eqb tag 0 (λ e. omega arith)) (first-ends h .place))
+module _ (m : List ℕ) (tag : ℕ) (others : List Want) where
+  pub first-ends : laid m (want tag 25 57 ∷ others) ≡ true → Passed m 0 tag 25 57
+  first-ends h = let e = laid-ends m (want tag 25 57 ∷ others) h in first-field m 0 tag 25 57 others (e .0) (e .1) .0
 
   -- where that end is found the message is laid down; where it is lost it is not
   pub enclosed : (end : ℕ) → end ≡ need (laid m (want tag 25 57 ∷ others)) lost (3 + size m 0) → (end ≡ lost → ⊥) → Enclosed m (want tag 25 57 ∷ others) end
@@ -57,47 +47,13 @@ module _ (m : List ℕ) (tag : ℕ) (others : List Want) (t : 0 < tag) where
   pub not-enclosed : (end : ℕ) → end ≡ need (laid m (want tag 25 57 ∷ others)) lost (3 + size m 0) → end ≡ lost → laid m (want tag 25 57 ∷ others) ≡ false
   not-enclosed end e h = missed (laid m (want tag 25 57 ∷ others)) (3 + size m 0) end (λ l. omega (arith, first-ends l .short)) e h
 
--- a plan of two fields has nothing behind them
-two-fields : (m : List ℕ) (a b : Want) → laid m (a ∷ b ∷ wantNone ∷ wantNone ∷ wantNone ∷ []) ≡ laid m (a ∷ b ∷ [])
-unfolding laid ends after
-two-fields m a b = refl
-
--- the end of the first field by a plan of two
-pub planned-end : (m : List ℕ) (tag : ℕ) (second a b c d e : Want) → 0 < tag → a ≡ want tag 25 57 → b ≡ second → c ≡ wantNone → d ≡ wantNone → e ≡ wantNone
-    → need (laid m (a ∷ b ∷ c ∷ d ∷ e ∷ [])) lost (after m 0 a) ≡ need (laid m (want tag 25 57 ∷ second ∷ [])) lost (3 + size m 0)
-planned-end m tag second a b c d e t fa fb fc fd fe =
-    rw (fa, fb, fc, fd, fe, two-fields m (want tag 25 57) second) (first-place m tag (second ∷ []) t)
-
--- the same of a message laid down in one of two ways
-module _ (m : List ℕ) (tag tag′ : ℕ) (others others′ : List Want) (t : 0 < tag) (t′ : 0 < tag′) where
-  either-enclosed : (u v : Bool) → laid m (want tag 25 57 ∷ others) ≡ u → laid m (want tag′ 25 57 ∷ others′) ≡ v → (u || v) ≡ true → (size m 0 ≤ 57) × (3 + size m 0 ≤ length m)
-  either-enclosed true v l l′ h = let p = first-ends m tag others t l in (p .short, p .whole)
-  either-enclosed false true l l′ h = let p = first-ends m tag′ others′ t′ l′ in (p .short, p .whole)
-  either-enclosed false false l l′ h = absurd (false≢true h)
-
-  abbrev either : Bool
-  either = laid m (want tag 25 57 ∷ others) || laid m (want tag′ 25 57 ∷ others′)
-
-  pub either-found : (end : ℕ) → end ≡ need either lost (3 + size m 0) → (end ≡ lost → ⊥) → (either ≡ true) × (end ≡ 3 + size m 0) × (3 + size m 0 ≤ length m)
-  either-found end e h =
-      let f = found either (3 + size m 0) end e h in
-      (f .0, f .1, either-enclosed _ _ refl refl (f .0) .1)
-
-  pub either-lost : (end : ℕ) → end ≡ need either lost (3 + size m 0) → end ≡ lost → either ≡ false
-  either-lost end e h = missed either (3 + size m 0) end (λ l. omega (arith, either-enclosed _ _ refl refl l .0)) e h
-
--- a body's five fields as laid down, the places where they end, and its length
+-- a body's five fields as laid down, and its length
 pub record BodyLaid (b : List ℕ) : Type 0 where
   pub sender : Passed b 0 0x01 1 1
   pub recipient : Passed b 4 0x02 3 3
   pub amount : Passed b 10 0x03 4 4
   pub sequence : Passed b 17 0x04 2 2
   pub note : Passed b 22 0x05 0 32
-  pub sender-ends : past b 0 0x01 1 1 ≡ 4
-  pub recipient-ends : past b 4 0x02 3 3 ≡ 10
-  pub amount-ends : past b 10 0x03 4 4 ≡ 17
-  pub sequence-ends : past b 17 0x04 2 2 ≡ 22
-  pub note-ends : past b 22 0x05 0 32 ≡ length b
   pub least : 25 ≤ length b
   pub most : length b ≤ 57
   pub note-size : size b 22 ≡ length b - 25
@@ -107,11 +63,11 @@ pub body-laid : (b : List ℕ) → laid b bodyFields ≡ true → BodyLaid b
 body-laid b h =
     let t = laid-ends b bodyFields h in
     let l : length b ≤ 1148 = t .0 in
-    let f₁ = first-sized b 0 0x01 1 4 _ l (lit< tt) refl (t .1) in
-    let f₂ = first-sized b 4 0x02 3 10 _ l (lit< tt) refl (f₁ .1) in
-    let f₃ = first-sized b 10 0x03 4 17 _ l (lit< tt) refl (f₂ .1) in
-    let f₄ = first-sized b 17 0x04 2 22 _ l (lit< tt) refl (f₃ .1) in
-    let f₅ = last-field b 22 0x05 0 32 l (lit< tt) (f₄ .1) in
+    let f₁ = first-sized b 0 0x01 1 4 _ l refl (t .1) in
+    let f₂ = first-sized b 4 0x02 3 10 _ l refl (f₁ .1) in
+    let f₃ = first-sized b 10 0x03 4 17 _ l refl (f₂ .1) in
+    let f₄ = first-sized b 17 0x04 2 22 _ l refl (f₃ .1) in
+    let f₅ = last-field b 22 0x05 0 32 l (f₄ .1) in
     let e : 25 + size b 22 ≡ length b = f₅ .1 in
     let s : size b 22 ≤ 32 = f₅ .0 .short in
     record {
@@ -120,11 +76,6 @@ body-laid b h =
       amount = f₃ .0;
       sequence = f₄ .0;
       note = f₅ .0;
-      sender-ends = sized-ends b 0 0x01 1 4 (f₁ .0) refl;
-      recipient-ends = sized-ends b 4 0x02 3 10 (f₂ .0) refl;
-      amount-ends = sized-ends b 10 0x03 4 17 (f₃ .0) refl;
-      sequence-ends = sized-ends b 17 0x04 2 22 (f₄ .0) refl;
-      note-ends = f₅ .0 .place ∙ f₅ .1;
       least = omega arith;
       most = omega arith;
       note-size = omega arith;
@@ -148,9 +99,9 @@ pub order-laid : (m : List ℕ) → laid m orderFields ≡ true → OrderLaid m
 order-laid m h =
     let t = laid-ends m orderFields h in
     let l : length m ≤ 1148 = t .0 in
-    let f₁ = first-field m 0 0x10 25 57 _ l (lit< tt) (t .1) in
+    let f₁ = first-field m 0 0x10 25 57 _ l (t .1) in
     let e : 3 + size m 0 ≡ size m 0 + 3 = omega arith in
-    let f₂ = last-field m (size m 0 + 3) 0x11 64 64 l (lit< tt) (rw e at (f₁ .1)) in
+    let f₂ = last-field m (size m 0 + 3) 0x11 64 64 l (rw e at (f₁ .1)) in
     record { body = f₁ .0; signature = f₂ .0; total = omega (arith, f₂ .1, f₂ .0 .long, f₂ .0 .short) }
 
 -- the signature of an order with its fields has 64 bytes
@@ -171,9 +122,9 @@ pub funding-laid : (m : List ℕ) → laid m fundingFields ≡ true → FundingL
 funding-laid m h =
     let t = laid-ends m fundingFields h in
     let l : length m ≤ 1148 = t .0 in
-    let f₁ = first-sized m 0 0x30 2 5 _ l (lit< tt) refl (t .1) in
-    let f₂ = first-sized m 5 0x31 1 9 _ l (lit< tt) refl (f₁ .1) in
-    let f₃ = last-field m 9 0x32 4 4 l (lit< tt) (f₂ .1) in
+    let f₁ = first-sized m 0 0x30 2 5 _ l refl (t .1) in
+    let f₂ = first-sized m 5 0x31 1 9 _ l refl (f₁ .1) in
+    let f₃ = last-field m 9 0x32 4 4 l (f₂ .1) in
     record { index = f₁ .0; account = f₂ .0; amount = f₃ .0; sixteen = omega (arith, f₃ .1, f₃ .0 .long, f₃ .0 .short) }
 
 -- n votes stand from `at` to the end of the message, one field 21 after the other
@@ -227,7 +178,7 @@ unfolding ends after
 certificate-laid m h =
     let t = laid-ends m certificateFields h in
     let l : length m ≤ 1148 = t .0 in
-    let p = first-field m 0 0x20 25 57 (wantAll 0x21 65 ∷ []) l (lit< tt) (t .1) in
+    let p = first-field m 0 0x20 25 57 (wantAll 0x21 65 ∷ []) l (t .1) in
     let at = number two m 1 + 3 in
     let e : 0 + 3 + number two m 1 ≡ at = omega arith in
     let end : pastAll (length m) m at 0x21 65 65 ≡ length m = rw e at (p .1) in

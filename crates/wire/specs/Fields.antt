@@ -8,8 +8,6 @@ use lib.Dec.{leb, eqb}
 use denote.Ref.{RefT}
 use Rattle.octets.specs.Octets.{one, two, number, bytes}
 use Rattle.wire.specs.Numbers.{isMessage}
-use Rattle.wire.specs.declared.fields.Want.{Want}
-use Rattle.wire.specs.declared.fields.Plan.{Plan}
 use Rattle.wire.specs.declared.fields.Reader.{Reader}
 
 -- what follows where a test holds; what stands before it where the test fails
@@ -21,6 +19,13 @@ need false failed rest = failed
 abbrev pub field : ℕ → List ℕ → List ℕ
 field tag value = bytes one tag ++ (bytes two (length value) ++ value)
 
+-- what a message has next: a field with this tag and a value of `least` to `most` bytes, or `many` of them up to its end
+pub record Want : Type 0 where
+  pub tag : ℕ
+  pub least : ℕ
+  pub most : ℕ
+  pub many : Bool
+
 -- one field with a value of `least` to `most` bytes
 abbrev pub want : ℕ → ℕ → ℕ → Want
 want tag least most = record { tag = tag; least = least; most = most; many = false }
@@ -28,10 +33,6 @@ want tag least most = record { tag = tag; least = least; most = most; many = fal
 -- any number of fields with a value of `size` bytes, up to the end of the message
 abbrev pub wantAll : ℕ → ℕ → Want
 wantAll tag size = record { tag = tag; least = size; most = size; many = true }
-
--- no field: what fills up a plan of fewer than five
-abbrev pub wantNone : Want
-wantNone = record { tag = 0; least = 0; most = 0; many = false }
 
 -- the place that no message has: where a field was not as laid down
 abbrev pub lost : ℕ
@@ -59,10 +60,9 @@ pastAll (suc n) m at tag least most = cond (eqb at (length m)) at (pastAll n m (
 -- the place after what is wanted at `at`
 unfoldable pub after : List ℕ → ℕ → Want → ℕ
 after m at w =
-    cond (eqb (w .tag) 0) at
-    (cond (w .many)
+    cond (w .many)
     (pastAll (length m) m at (w .tag) (w .least) (w .most))
-    (past m at (w .tag) (w .least) (w .most)))
+    (past m at (w .tag) (w .least) (w .most))
 
 -- the place after a list of fields
 unfoldable pub ends : List ℕ → ℕ → List Want → ℕ
@@ -76,7 +76,3 @@ laid m fields = isMessage (length m) && eqb (ends m 0 fields) (length m)
 -- a reader holds the message and its place in it
 abbrev pub readerAt : RefT (List ℕ) → ℕ → Reader
 readerAt m at = record { message = m; at = at }
-
--- the fields of a plan
-abbrev pub planned : Plan → List Want
-planned plan = plan .a ∷ plan .b ∷ plan .c ∷ plan .d ∷ plan .e ∷ []

@@ -5,8 +5,7 @@ use mathlib.Core.List.{List, [], _∷_, _++_}
 use lib.ListN.{length}
 use Rattle.octets.specs.Octets.{one, two, four, number, bytes, cut}
 use Rattle.wire.specs.Numbers.{isAccount, isRecipient, isAmount, isSequence, isIndex}
-use Rattle.wire.specs.Fields.{field, want, wantAll}
-use Rattle.wire.specs.declared.fields.Want.{Want}
+use Rattle.wire.specs.Fields.{field, Want, want, wantAll}
 use Rattle.wire.specs.declared.kinds.Payment.{Payment}
 use Rattle.wire.specs.declared.kinds.Funding.{Funding}
 

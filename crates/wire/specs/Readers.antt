@@ -2,17 +2,18 @@
 use Prim.Native.Nat.{ℕ}
 use mathlib.Core.Bool.{Bool, _&&_, _||_}
 use mathlib.Core.List.{List, [], _∷_}
-use lib.ListN.{length, replicate}
+use lib.ListN.{length, take, replicate}
 use lib.Dec.{eqb}
 use Rattle.octets.specs.Octets.{put}
 use Rattle.wire.specs.Numbers.{isFaults}
-use Rattle.wire.specs.Fields.{need, laid}
+use Rattle.wire.specs.Fields.{need, size, laid}
 use Rattle.wire.specs.Messages.{bodyFields, payment, isPayment, noteIn, orderFields, certificateFields, inside, signatureIn, fundingFields, funding, isFunding}
 use Rattle.wire.specs.Votes.{Committee, committee, votes, signersIn, known, rising, good}
 use Rattle.wire.specs.Refusals.{Said, gives, refuses, paymentValues, fundingValues, bodySaid}
 use Rattle.wire.specs.declared.kinds.Note.{Note}
 use Rattle.wire.specs.declared.answers.BodyRead.{BodyRead}
 use Rattle.wire.specs.declared.answers.OrderRead.{OrderRead}
+use Rattle.wire.specs.declared.answers.Stretch.{Stretch}
 
 -- a body's values, or 1, then 2
 unfoldable pub readPayment : List ℕ → Said
@@ -109,9 +110,24 @@ judgedBy c m verdicts =
 abbrev pub judged : ℕ → List ℕ → List ℕ → Said
 judged f m verdicts = need (isFaults f) (refuses 2) (judgedBy (committee f) m verdicts)
 
+-- the answer without the payment
+abbrev pub countOf : Said → Said
+countOf said = record { number = said .number; values = take 1 (said .values) }
+
 -- the stretch that votes cover: the body inside an order or a certificate, or an empty part where it is neither of these or has 1 or 2
 unfoldable pub covered : List ℕ → List ℕ
 covered m =
     need (laid m orderFields || laid m certificateFields) []
     (need (isBody (inside m)) []
     (inside m))
+
+-- an empty stretch
+abbrev pub nowhere : Stretch
+nowhere = record { place = 0; length = 0 }
+
+-- the same stretch by its place and length
+unfoldable pub coveredAt : List ℕ → Stretch
+coveredAt m =
+    need (laid m orderFields || laid m certificateFields) nowhere
+    (need (isBody (inside m)) nowhere
+    (record { place = 3; length = size m 0 }))

@@ -87,3 +87,9 @@ pub struct OrderRead {
     pub note: Note,
     pub signature: [u8; 64],
 }
+
+// Where an uncopied answer lies: its place and its length.
+pub struct Stretch {
+    pub place: usize,
+    pub length: usize,
+}

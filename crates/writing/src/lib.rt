@@ -179,8 +179,7 @@ fn write_voted(f: u64, out: &mut [u8], body: &[u8], run: &[u8]) -> WriteAnswer
     ensures { λ r. ⌜ written r (now (out .exit)) ≡ writeVoted f (now (out .entry)) (now (body .entry)) (now (run .entry)) ⌝ }
 {
     let n = run.len() / votes::VOTE;
-    let t = votes::tally_of(run, 0, votes::VOTE, n, 3 * f);
-    match votes::judge_votes(f, t, true) {
+    match votes::count_votes(f, run, 0, votes::VOTE, n) {
         VotesAnswer::Refused(refusal) => WriteAnswer::Refused(refusal),
         VotesAnswer::Counted(_) => {
             let size = body.len() + 3 + votes::VOTE_FIELD * n;

@@ -7,14 +7,8 @@ use Rattle.writing.proofs.Written.{length-certificate, writes-small, wr
 use Rattle.writing.proofs.write_voted.Statement.{statement}
 use Rattle.writing.proofs.write_voted.Tie as tie
 
-mul-tally-of : tie.Need-mul-tally-of
-mul-tally-of c = search needs
-
-tally-of-requires : tie.Need-tally-of-requires
-tally-of-requires c κs = search needs
-
-judge-votes-requires : tie.Need-judge-votes-requires
-judge-votes-requires c κs = search needs
+count-votes-requires : tie.Need-count-votes-requires
+count-votes-requires c κs = search needs
 
 enum-known-refusal : tie.Need-enum-known-refusal
 enum-known-refusal c = search needs
@@ -33,14 +27,14 @@ add-size-2 c = search needs
 
 returns : tie.Need-returns
 unfolding writeVotedOf
-returns c = writes-small _ _ (length-certificate _ _) (c .if1 .taken) ∙ votes-onward (λ n. unwritten n (c .before .before .before .before .before .before .before .before .args .out .now)) _ _ _ true _ (c .before .before .before .before .tally-of .ensures) (rw (c .before .enum-told .given .1) at (c .before .before .before .judge-votes .ensures))
+returns c = writes-small _ _ (length-certificate _ _) (c .if1 .taken) ∙ votes-onward _ _ true (λ n. unwritten n (c .before .before .before .before .before .before .before .args .out .now)) _ (rw (c .before .enum-told .given .1) at (c .before .before .before .count-votes .ensures))
 
 put-certificate-requires : tie.Need-put-certificate-requires
 put-certificate-requires c κs = search needs
 
 returns-2 : tie.Need-returns-2
 unfolding writeVotedOf
-returns-2 c = votes-onward (λ n. unwritten n (c .before .before .before .before .before .before .before .before .args .out .now)) _ _ _ true _ (c .before .before .before .before .tally-of .ensures) (rw (c .before .refusal .given .1) at (c .before .before .before .judge-votes .ensures))
+returns-2 c = votes-onward _ _ true (λ n. unwritten n (c .before .before .before .before .before .before .before .args .out .now)) _ (rw (c .before .refusal .given .1) at (c .before .before .before .count-votes .ensures))
 
 same-length : tie.Need-same-length
 same-length c = search needs
@@ -49,15 +43,13 @@ returns-3 : tie.Need-returns-3
 unfolding writeVotedOf
 returns-3 c =
     writes-room _ _ (length-certificate _ _) (c .before .before .before .before .if1 .left) (c .before .before .put-certificate .ensures)
-    ∙ votes-onward (λ n. unwritten n (c .before .before .before .before .before .before .before .before .before .before .before .before .args .out .now)) _ _ _ true _ (c .before .before .before .before .before .before .before .before .tally-of .ensures) (rw (c .before .before .before .before .before .enum-told .given .1) at (c .before .before .before .before .before .before .before .judge-votes .ensures))
+    ∙ votes-onward _ _ true (λ n. unwritten n (c .before .before .before .before .before .before .before .before .before .before .before .args .out .now)) _ (rw (c .before .before .before .before .before .enum-told .given .1) at (c .before .before .before .before .before .before .before .count-votes .ensures))
 
 pub write-voted-spec : {M : Type 1} → statement M
 write-voted-spec =
     tie.close
     (tie.spec
-    mul-tally-of
-    tally-of-requires
-    judge-votes-requires
+    count-votes-requires
     enum-known-refusal
     enum-told
     add-size

@@ -1,11 +1,9 @@
-use Prim.Native.Nat.{ℕ, _+_, _-_}
+use Prim.Native.Nat.{ℕ, _+_}
 use mathlib.Core.List.{List, []}
 use mathlib.Core.Path.{_≡_, sym, ap, _∙_}
 use native.Mathlib.Omega.{arith}
-use lib.ListN.{length}
 use borrow.Author.Needs.{needs}
-use denote.Ref.{now}
-use Rattle.octets.specs.Octets.{two, number, cut}
+use Rattle.octets.specs.Octets.{cut}
 use Rattle.wire.specs.declared.kinds.Note.{Note}
 use Rattle.wire.specs.Readers.{OrderShown, readOrderPayment, isOrder, held, noteHeld, readOrder}
 use Rattle.wire.specs.Refusals.{Said}
@@ -43,26 +41,23 @@ signature-of-requires c κs = search needs
 enum-known-answer-2 : tie.Need-enum-known-answer-2
 enum-known-answer-2 c = search needs
 
-get16-requires : tie.Need-get16-requires
-get16-requires c κs = let d = order-facts (c .before .before .before .before .before .args .message .now) (rw (c .before .answer2 .given .1) at (c .before .before .before .order-payment .ensures)) in omega (arith)
-
-cut-requires-3 : tie.Need-cut-requires-3
-cut-requires-3 c κs = let d = order-facts (c .before .before .before .before .before .before .args .message .now) (rw (c .before .before .answer2 .given .1) at (c .before .before .before .before .order-payment .ensures)) in omega (arith, c .get16 .ensures .0)
+enclosed-requires : tie.Need-enclosed-requires
+enclosed-requires c κs = let d = order-facts (c .before .before .before .before .before .args .message .now) (rw (c .before .answer2 .given .1) at (c .before .before .before .order-payment .ensures)) in omega arith
 
 sub-cut : tie.Need-sub-cut
-sub-cut c = let d = order-facts (c .before .before .before .before .before .before .before .args .message .now) (rw (c .before .before .before .answer2 .given .1) at (c .before .before .before .before .before .order-payment .ensures)) in omega (arith, c .before .get16 .ensures .0)
+sub-cut c = let d = order-facts (c .before .before .before .before .before .before .args .message .now) (rw (c .before .before .answer2 .given .1) at (c .before .before .before .before .order-payment .ensures)) in omega (arith, c .enclosed .ensures .1)
 
-cut-requires-4 : tie.Need-cut-requires-4
-cut-requires-4 c κs = let d = order-facts (c .before .before .before .before .before .before .before .args .message .now) (rw (c .before .before .before .answer2 .given .1) at (c .before .before .before .before .before .order-payment .ensures)) in omega (arith, c .before .get16 .ensures .0, c .cut3 .ensures .1)
+cut-requires-3 : tie.Need-cut-requires-3
+cut-requires-3 c κs = let d = order-facts (c .before .before .before .before .before .before .args .message .now) (rw (c .before .before .answer2 .given .1) at (c .before .before .before .before .order-payment .ensures)) in omega (arith, c .enclosed .ensures .1)
 
 note-of-requires-2 : tie.Need-note-of-requires-2
-note-of-requires-2 c κs = let d = order-facts (c .before .before .before .before .before .before .before .before .args .message .now) (rw (c .before .before .before .before .answer2 .given .1) at (c .before .before .before .before .before .before .order-payment .ensures)) in omega (arith, c .before .before .get16 .ensures .0, c .cut4 .ensures .1)
+note-of-requires-2 c κs = let d = order-facts (c .before .before .before .before .before .before .before .args .message .now) (rw (c .before .before .before .answer2 .given .1) at (c .before .before .before .before .before .order-payment .ensures)) in omega (arith, c .before .enclosed .ensures .1, c .cut3 .ensures .1)
 
 add-cut : tie.Need-add-cut
 add-cut c = search needs
 
-cut-requires-5 : tie.Need-cut-requires-5
-cut-requires-5 c κs = let d = order-facts (c .before .before .before .before .before .before .before .before .before .args .message .now) (rw (c .before .before .before .before .before .answer2 .given .1) at (c .before .before .before .before .before .before .before .order-payment .ensures)) in omega (arith, c .before .before .before .get16 .ensures .0)
+cut-requires-4 : tie.Need-cut-requires-4
+cut-requires-4 c κs = let d = order-facts (c .before .before .before .before .before .before .before .before .args .message .now) (rw (c .before .before .before .before .answer2 .given .1) at (c .before .before .before .before .before .before .order-payment .ensures)) in omega (arith, c .before .before .enclosed .ensures .1)
 
 signature-of-requires-2 : tie.Need-signature-of-requires-2
 signature-of-requires-2 c κs = search needs
@@ -74,14 +69,11 @@ returns c = let m = c .before .before .before .before .before .before .before .b
     shown m _ _ _ e (c .before .before .note-of .ensures ∙ ap noteHeld (c .before .before .before .cut .ensures .0 ∙ sym (simp q))) (c .signature-of .ensures ∙ ap (held 64) (c .before .cut2 .ensures .0 ∙ sym (simp q)))
 
 returns-2 : tie.Need-returns-2
-returns-2 c = let m = c .before .before .before .before .before .before .before .before .before .before .before .args .message .now in
-    let e = rw (c .before .before .before .before .before .before .before .answer2 .given .1) at (c .before .before .before .before .before .before .before .before .before .order-payment .ensures) in
+returns-2 c = let m = c .before .before .before .before .before .before .before .before .before .before .args .message .now in
+    let e = rw (c .before .before .before .before .before .before .answer2 .given .1) at (c .before .before .before .before .before .before .before .before .order-payment .ensures) in
     let d = order-facts m e in
-    let s : c .before .before .before .before .before .get16 .result ≡ number two m 1 = c .before .before .before .before .before .get16 .ensures .0 in
-    let i : now (c .before .before .before .before .cut3 .result) ≡ inside m = c .before .before .before .before .cut3 .ensures .0 ∙ ap (cut m 3) s in
-    let k : c .before .before .before .before .before .get16 .result - 25 ≡ length (inside m) - 25 = omega (arith, d .size) in
-    let n : now (c .before .before .before .cut4 .result) ≡ noteIn (inside m) = c .before .before .before .cut4 .ensures .0 ∙ ap (λ (l : List ℕ). cut l 25 (c .before .before .before .before .before .get16 .result - 25)) i ∙ ap (cut (inside m) 25) k in
-    let g : now (c .before .cut5 .result) ≡ signatureIn m = c .before .cut5 .ensures .0 ∙ ap (λ (j : ℕ). cut m (j + 6) 64) s in
+    let n = c .before .before .before .cut3 .ensures .0 ∙ ap noteIn (c .before .before .before .before .enclosed .ensures .0) in
+    let g = c .before .cut4 .ensures .0 ∙ ap (λ (j : ℕ). cut m (j + 6) 64) (c .before .before .before .before .enclosed .ensures .1) in
     shown m _ _ _ e (c .before .before .note-of2 .ensures ∙ ap noteHeld (n ∙ sym (simp (d .accepted)))) (c .signature-of2 .ensures ∙ ap (held 64) (g ∙ sym (simp (d .accepted))))
 
 pub read-order-spec : {M : Type 1} → statement M
@@ -95,13 +87,12 @@ read-order-spec =
     cut-requires-2
     signature-of-requires
     enum-known-answer-2
-    get16-requires
-    cut-requires-3
+    enclosed-requires
     sub-cut
-    cut-requires-4
+    cut-requires-3
     note-of-requires-2
     add-cut
-    cut-requires-5
+    cut-requires-4
     signature-of-requires-2
     returns
     returns-2)
