@@ -19,6 +19,9 @@ use Rattle.wire.specs.declared.answers.CertificateAnswer.{CertificateAnswer}
 use Rattle.wire.specs.declared.answers.WriteAnswer.{WriteAnswer}
 use Rattle.wire.specs.declared.answers.BodyRead.{BodyRead}
 use Rattle.wire.specs.declared.answers.OrderRead.{OrderRead}
+use Rattle.wire.specs.declared.answers.Stretch.{Stretch}
+use Rattle.votes.specs.Tally.{votesSaid}
+use Rattle.votes.specs.declared.VotesAnswer.{VotesAnswer}
 use Rattle.messages.proofs.Told.{paymentOf, fundingOf}
 
 -- a function with a way back is injective
@@ -81,6 +84,11 @@ fundingSaid-injective = said-injective fundingSaid FundingAnswer.Refused (λ vs.
 pub certificateSaid-injective : (a b : CertificateAnswer) → certificateSaid a ≡ certificateSaid b → a ≡ b
 certificateSaid-injective = said-injective certificateSaid CertificateAnswer.Refused (λ vs. CertificateAnswer.Certifies (paymentOf (drop 1 vs)) (getD vs 0 0))
     (λ a. elim a [ CertificateAnswer.Certifies p n ↦ refl | CertificateAnswer.Refused r ↦ answered-refusal CertificateAnswer.Refused _ r ])
+
+-- answers of the judge of a certificate without the payment
+pub votesSaid-injective : (a b : VotesAnswer) → votesSaid a ≡ votesSaid b → a ≡ b
+votesSaid-injective = said-injective votesSaid VotesAnswer.Refused (λ vs. VotesAnswer.Counted (getD vs 0 0))
+    (λ a. elim a [ VotesAnswer.Counted n ↦ refl | VotesAnswer.Refused r ↦ answered-refusal VotesAnswer.Refused _ r ])
 
 -- answers of a writer
 pub writeSaid-injective : (a b : WriteAnswer) → writeSaid a ≡ writeSaid b → a ≡ b
@@ -148,9 +156,16 @@ pub judge-certificate : (f : ℕ) (message verdicts : List ℕ) (r s : Certifica
     → certificateSaid s ≡ readers.judged f message verdicts → r ≡ s
 judge-certificate f message verdicts = determined certificateSaid certificateSaid-injective (readers.judged f message verdicts)
 
+pub judge : (f : ℕ) (message verdicts : List ℕ) (r s : VotesAnswer) → votesSaid r ≡ readers.countOf (readers.judged f message verdicts)
+    → votesSaid s ≡ readers.countOf (readers.judged f message verdicts) → r ≡ s
+judge f message verdicts = determined votesSaid votesSaid-injective (readers.countOf (readers.judged f message verdicts))
+
 -- the two parts of the message are equal as lists of bytes
 pub covered : (message r s : List ℕ) → r ≡ readers.covered message → s ≡ readers.covered message → r ≡ s
 covered message = equal (readers.covered message)
+
+pub covered-at : (message : List ℕ) (r s : Stretch) → r ≡ readers.coveredAt message → s ≡ readers.coveredAt message → r ≡ s
+covered-at message = equal (readers.coveredAt message)
 
 -- two answers of a writer with the outputs after them
 writer : (w : Written) (r s : WriteAnswer) (o p : List ℕ) → written r o ≡ w → written s p ≡ w → (r ≡ s) × (o ≡ p)
