@@ -5,7 +5,10 @@
  * that the caller lends.
  *
  * A pointer and the length behind it are lent for the call: length bytes can be read there, and written if the pointer is not const. The
- * pointer is not null, also where the length is 0. What is lent for writing overlaps nothing else that is lent. Nothing is kept. */
+ * pointer is not null, also where the length is 0. What is lent for writing overlaps nothing else that is lent. Nothing is kept.
+ *
+ * Verdicts are the caller's: whether it found the signatures right. 1 is good, every other value bad. An order and a funding order have one, a
+ * certificate has one for each vote, in the order of the votes. */
 #ifndef CARTLOZENGE_H
 #define CARTLOZENGE_H
 
@@ -26,6 +29,9 @@ enum {
     CARTLOZENGE_SIGNATURE = 64,
     CARTLOZENGE_VOTE = 65
 };
+
+/* Kinds of recipient. */
+enum { CARTLOZENGE_TO_ACCOUNT = 0, CARTLOZENGE_TO_LEDGER = 1 };
 
 /* The refusals of document 01. */
 enum {
@@ -49,7 +55,7 @@ enum {
     CARTLOZENGE_BUFFER_TOO_SMALL = 18
 };
 
-/* Of every answer: 0, or the number of the refusal. */
+/* Of every answer: 0, or the number of the refusal. What follows speaks of an answer whose refusal is 0. */
 static inline unsigned cartlozenge_refusal(uint64_t answer)
 {
     return (unsigned)(answer & 0xff);

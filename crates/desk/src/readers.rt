@@ -79,7 +79,7 @@ pub extern "C" fn cartlozenge_read_certificate(f: u64, message: &[u8], values: &
     }
 }
 
-// The payment is read where it is wanted: a judged certificate is what a machine meets most.
+// The payment is read here and not handed through the judge's answer, which would copy it twice.
 #[no_mangle]
 pub extern "C" fn cartlozenge_judge_certificate(
     f: u64,

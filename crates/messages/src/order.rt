@@ -14,7 +14,7 @@ use wire::fields;
 use wire::layouts;
 
 // The body inside field 10 or 20, uncopied.
-pub fn enclosed(message: &[u8]) -> &[u8]
+pub(crate) fn enclosed(message: &[u8]) -> &[u8]
     requires { ⌜ 3 + size (now message) 0 ≤ length (now message) ⌝ }
     ensures { λ r. ⌜ (now r ≡ inside (now (message .entry))) × (length (now r) ≡ size (now (message .entry)) 0) ⌝ }
 {

@@ -13,7 +13,7 @@ use Rattle.records.specs.Calls.{fresh, order, certificate, fundingOrder, accoun
 use Rattle.table.specs.Papers.{zeros, lent, good, e1, e2, body, funding, amount-0, amount-1500, amount-1501, amount-2000, amount-2001, amount-1000000001, sequence-0, sequence-1, pays, funds, orderOf, certificateOf}
 use Rattle.table.specs.States.{fresh-machine, after-E2, after-E4, after-E6, after-E7, after-E9, reads}
 
--- an amount, as a number and as its bytes, that is answered with 2 wherever it stands; nothing changes
+-- an amount, as a number and as its bytes, that is answered with 2 where a body or a funding order is read, written or handled by a machine; nothing changes
 pub record OutOfRange (amount : ℕ) (bytes : List ℕ) : Type 0 where
   pub body-read : readBody (body bytes sequence-0) ≡ record { answer = refuses 2; note = record { length = 0; bytes = zeros 32 } }
   pub body-written : writeBody (lent 57) (pays amount) [] ≡ unwritten 2 (lent 57)

@@ -44,16 +44,21 @@ fn order(payment: Payment) -> Vec<u8> {
     out
 }
 
-/// A certificate with the votes of exactly a quorum.
-pub fn certificate(f: u64, sender: usize, kind: u64) -> Vec<u8> {
+/// The votes of exactly a quorum.
+pub fn quorum(f: u64) -> Vec<u8> {
     let mut votes = Vec::new();
     for machine in 0..=2 * f as u8 {
         votes.push(machine);
         votes.extend([9; 64]);
     }
+    votes
+}
+
+/// A certificate with these votes.
+pub fn certificate(f: u64, sender: usize, kind: u64) -> Vec<u8> {
     let mut out = vec![0; cartlozenge::LONGEST_MESSAGE];
     let written =
-        second::write_certificate(f, &mut out, &body(payment(sender, kind)), &votes).unwrap();
+        second::write_certificate(f, &mut out, &body(payment(sender, kind)), &quorum(f)).unwrap();
     out.truncate(written);
     out
 }
@@ -63,10 +68,10 @@ pub fn good(f: u64) -> Vec<u8> {
     vec![1; 2 * f as usize + 1]
 }
 
-fn funding_order(account: usize) -> Vec<u8> {
+pub fn funding_order(account: usize, index: u64) -> Vec<u8> {
     let mut out = vec![0; cartlozenge::FUNDING_ORDER];
     let funding = Funding {
-        index: account as u64 + 1,
+        index,
         account: account as u64,
         amount: 2_000,
     };
@@ -74,12 +79,16 @@ fn funding_order(account: usize) -> Vec<u8> {
     out
 }
 
+/// Accounts are funded in the order of their numbers.
+fn next_funding(account: usize) -> Vec<u8> {
+    funding_order(account, account as u64 + 1)
+}
+
 /// A machine on which every account has 2,000.
 fn funded(f: u64) -> Vec<u8> {
-    let mut state = vec![0; cartlozenge::MACHINE_STATE];
-    second::fresh_machine(&mut state, f, 0).unwrap();
+    let mut state = fresh(f);
     for account in 0..ACCOUNTS {
-        second::funding_order(&mut state, &funding_order(account), &[1]).unwrap();
+        second::funding_order(&mut state, &next_funding(account), &[1]).unwrap();
     }
     state
 }
@@ -126,7 +135,7 @@ pub fn batches(f: u64) -> Batches {
         },
         funding: Batch {
             state: fresh(f),
-            messages: each(funding_order),
+            messages: each(next_funding),
             verdicts: vec![1],
         },
         redeem: Batch {

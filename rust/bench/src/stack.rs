@@ -1,7 +1,7 @@
 //! Stack of each exported function: it is called on a painted stack, and the deepest byte that lost its paint counts. The return address
 //! (8 bytes) counts in. Several paints, since a byte may be written with the paint's own value.
 
-use crate::inputs::{batches, certificate, good};
+use crate::inputs::{batches, certificate, funding_order, good, quorum};
 use std::arch::asm;
 use std::collections::BTreeMap;
 
@@ -77,52 +77,74 @@ mod exported {
     }
 }
 
-/// What the calls are lent.
+/// What the calls are lent: every state, message and list of verdicts is tried with every other, so that refusals are measured too.
 struct Lent {
     f: usize,
-    funded: Vec<u8>,
-    pending: Vec<u8>,
-    fresh: Vec<u8>,
-    ledger: Vec<u8>,
+    machines: Vec<Vec<u8>>,
+    ledgers: Vec<Vec<u8>>,
+    messages: Vec<Vec<u8>>,
+    verdicts: Vec<Vec<u8>>,
     values: Vec<u64>,
     out: Vec<u8>,
-    body: Vec<u8>,
-    order: Vec<u8>,
-    funding: Vec<u8>,
-    certificate: Vec<u8>,
-    claim: Vec<u8>,
-    one: Vec<u8>,
-    verdicts: Vec<u8>,
     votes: Vec<u8>,
     signature: Vec<u8>,
 }
 
+/// Fresh, funded, with orders pending, and with a byte set behind the pending body of account 0.
+fn machines(f: u64) -> Vec<Vec<u8>> {
+    let all = batches(f);
+    let mut damaged = all.certificate.state.clone();
+    damaged[8 + 71] = 1;
+    vec![
+        all.funding.state,
+        all.order.state,
+        all.certificate.state,
+        damaged,
+    ]
+}
+
+/// With a full pot, and with an empty one.
+fn ledgers(f: u64) -> Vec<Vec<u8>> {
+    let mut empty = vec![0; cartlozenge::LEDGER_STATE];
+    second::fresh_ledger(&mut empty, f).expect("f is in range");
+    vec![batches(f).redeem.state, empty]
+}
+
+/// The messages of each kind that are good on one of the states, and some that are good on none.
+fn messages(f: u64) -> Vec<Vec<u8>> {
+    let order = batches(f).order.messages[0].clone();
+    let to_account = certificate(f, 0, 0);
+    let mut repeated = to_account.clone();
+    let last_vote = repeated.len() - 65;
+    repeated[last_vote] = 0;
+    let mut to_itself = to_account.clone();
+    to_itself[12] = 0;
+    vec![
+        order[3..order.len() - 67].to_vec(),
+        order,
+        to_account[..to_account.len() / 2].to_vec(),
+        to_account,
+        repeated,
+        to_itself,
+        certificate(f, 0, 1),
+        funding_order(0, 1),
+        funding_order(0, 65),
+    ]
+}
+
 impl Lent {
     fn new(f: u64) -> Lent {
-        let all = batches(f);
-        let order = all.order.messages[0].clone();
-        let certificate_to_account = certificate(f, 0, 0);
-        let mut votes = Vec::new();
-        for machine in 0..=2 * f as u8 {
-            votes.push(machine);
-            votes.extend([9; 64]);
-        }
+        let mut bad = good(f);
+        bad[0] = 0;
         Lent {
             f: f as usize,
-            funded: all.order.state,
-            pending: all.certificate.state,
-            fresh: all.funding.state,
-            ledger: all.redeem.state,
+            machines: machines(f),
+            ledgers: ledgers(f),
+            messages: messages(f),
+            verdicts: vec![vec![1], good(f), bad],
             values: vec![0; 8],
             out: vec![0; cartlozenge::LONGEST_MESSAGE],
-            body: order[3..order.len() - 67].to_vec(),
-            order,
-            funding: all.funding.messages[0].clone(),
-            certificate: certificate_to_account,
-            claim: certificate(f, 0, 1),
-            one: vec![1],
-            verdicts: good(f),
-            votes,
+            votes: quorum(f),
             signature: vec![7; cartlozenge::SIGNATURE],
         }
     }
@@ -130,6 +152,10 @@ impl Lent {
 
 fn lent(bytes: &mut [u8]) -> [usize; 2] {
     [bytes.as_mut_ptr() as usize, bytes.len()]
+}
+
+fn each(lists: &mut [Vec<u8>]) -> Vec<[usize; 2]> {
+    lists.iter_mut().map(|bytes| lent(bytes)).collect()
 }
 
 fn call(name: &'static str, function: unsafe extern "C" fn(), parts: &[&[usize]]) -> Call {
@@ -140,140 +166,137 @@ fn call(name: &'static str, function: unsafe extern "C" fn(), parts: &[&[usize]]
     }
 }
 
-fn on_machines(with: &mut Lent) -> Vec<Call> {
+/// The calls on a state with a message and verdicts.
+fn with_messages(with: &mut Lent) -> Vec<Call> {
+    use exported::*;
+    let (machines, ledgers) = (each(&mut with.machines), each(&mut with.ledgers));
+    let (messages, verdicts) = (each(&mut with.messages), each(&mut with.verdicts));
+    let mut calls = Vec::new();
+    for message in &messages {
+        for verdicts in &verdicts {
+            for state in &machines {
+                let words: [&[usize]; 3] = [state, message, verdicts];
+                calls.push(call("order", cartlozenge_order, &words));
+                calls.push(call("certificate", cartlozenge_certificate, &words));
+                calls.push(call("funding_order", cartlozenge_funding_order, &words));
+            }
+            for state in &ledgers {
+                calls.push(call(
+                    "redeem",
+                    cartlozenge_redeem,
+                    &[state, message, verdicts],
+                ));
+            }
+        }
+    }
+    calls
+}
+
+/// The other calls on a state.
+fn on_states(with: &mut Lent) -> Vec<Call> {
     use exported::*;
     let f = with.f;
     let values = with.values.as_mut_ptr() as usize;
-    let (funded, pending, fresh) = (
-        lent(&mut with.funded),
-        lent(&mut with.pending),
-        lent(&mut with.fresh),
-    );
-    let (order, certificate, funding) = (
-        lent(&mut with.order),
-        lent(&mut with.certificate),
-        lent(&mut with.funding),
-    );
-    let (one, verdicts) = (lent(&mut with.one), lent(&mut with.verdicts));
-    vec![
-        call(
+    let (out, messages) = (lent(&mut with.out), each(&mut with.messages));
+    let mut calls = Vec::new();
+    for state in &each(&mut with.machines) {
+        calls.push(call(
             "fresh_machine",
             cartlozenge_fresh_machine,
-            &[&fresh, &[f, 0]],
-        ),
-        call("order", cartlozenge_order, &[&funded, &order, &one]),
-        call("order", cartlozenge_order, &[&pending, &order, &one]),
-        call(
-            "certificate",
-            cartlozenge_certificate,
-            &[&funded, &certificate, &verdicts],
-        ),
-        call(
-            "certificate",
-            cartlozenge_certificate,
-            &[&pending, &certificate, &verdicts],
-        ),
-        call(
-            "certificate",
-            cartlozenge_certificate,
-            &[&fresh, &certificate, &verdicts],
-        ),
-        call(
-            "funding_order",
-            cartlozenge_funding_order,
-            &[&fresh, &funding, &one],
-        ),
-        call(
+            &[state, &[f, 0]],
+        ));
+        calls.push(call(
             "account",
             cartlozenge_account,
-            &[&pending, &[0, values, values + 24]],
-        ),
-        call(
-            "standing_body",
-            cartlozenge_standing_body,
-            &[&order, &pending],
-        ),
-        call(
-            "standing_body",
-            cartlozenge_standing_body,
-            &[&order, &funded],
-        ),
-    ]
+            &[state, &[0, values, values + 24]],
+        ));
+        for message in &messages {
+            calls.push(call(
+                "standing_body",
+                cartlozenge_standing_body,
+                &[message, state],
+            ));
+        }
+    }
+    for state in &each(&mut with.ledgers) {
+        calls.push(call(
+            "fresh_ledger",
+            cartlozenge_fresh_ledger,
+            &[state, &[f]],
+        ));
+        calls.push(call("fund", cartlozenge_fund, &[state, &out, &[0, 2_000]]));
+        calls.push(call("pot", cartlozenge_pot, &[state, &[values]]));
+        calls.push(call("redeemed", cartlozenge_redeemed, &[state, &[0, 0]]));
+    }
+    calls
 }
 
-fn on_ledgers(with: &mut Lent) -> Vec<Call> {
-    use exported::*;
-    let f = with.f;
-    let values = with.values.as_mut_ptr() as usize;
-    let (ledger, out) = (lent(&mut with.ledger), lent(&mut with.out));
-    let (claim, verdicts) = (lent(&mut with.claim), lent(&mut with.verdicts));
-    vec![
-        call("fresh_ledger", cartlozenge_fresh_ledger, &[&ledger, &[f]]),
-        call("fund", cartlozenge_fund, &[&ledger, &out, &[0, 2_000]]),
-        call("redeem", cartlozenge_redeem, &[&ledger, &claim, &verdicts]),
-        call("pot", cartlozenge_pot, &[&ledger, &[values]]),
-        call("redeemed", cartlozenge_redeemed, &[&ledger, &[0, 0]]),
-    ]
-}
-
+/// The readers, each on every message, and the writers.
 fn on_messages(with: &mut Lent) -> Vec<Call> {
     use exported::*;
     let f = with.f;
     let values = with.values.as_mut_ptr() as usize;
-    let (out, body, order, funding) = (
+    let (out, votes, signature) = (
         lent(&mut with.out),
-        lent(&mut with.body),
-        lent(&mut with.order),
-        lent(&mut with.funding),
-    );
-    let (certificate, verdicts) = (lent(&mut with.certificate), lent(&mut with.verdicts));
-    let (votes, signature, note) = (
         lent(&mut with.votes),
         lent(&mut with.signature),
-        lent(&mut with.one),
     );
-    let payment = [0, 0, 1, 1_500, 0];
-    vec![
-        call("read_body", cartlozenge_read_body, &[&body, &[values]]),
-        call("read_order", cartlozenge_read_order, &[&order, &[values]]),
-        call(
+    let verdicts = each(&mut with.verdicts);
+    let mut calls = Vec::new();
+    for message in &each(&mut with.messages) {
+        calls.push(call(
+            "read_body",
+            cartlozenge_read_body,
+            &[message, &[values]],
+        ));
+        calls.push(call(
+            "read_order",
+            cartlozenge_read_order,
+            &[message, &[values]],
+        ));
+        calls.push(call(
             "read_funding_order",
             cartlozenge_read_funding_order,
-            &[&funding, &[values]],
-        ),
-        call(
+            &[message, &[values]],
+        ));
+        calls.push(call(
             "read_certificate",
             cartlozenge_read_certificate,
-            &[&[f], &certificate, &[values]],
-        ),
-        call(
-            "judge_certificate",
-            cartlozenge_judge_certificate,
-            &[&[f], &certificate, &verdicts, &[values]],
-        ),
-        call("covered", cartlozenge_covered, &[&order]),
-        call("covered", cartlozenge_covered, &[&certificate]),
-        call(
-            "write_body",
-            cartlozenge_write_body,
-            &[&out, &payment, &note],
-        ),
-        call(
-            "write_order",
-            cartlozenge_write_order,
-            &[&out, &payment, &note, &signature],
-        ),
-        call(
-            "write_funding_order",
-            cartlozenge_write_funding_order,
-            &[&out, &[1, 0, 2_000]],
-        ),
-        call(
+            &[&[f], message, &[values]],
+        ));
+        for verdicts in &verdicts {
+            let words: [&[usize]; 4] = [&[f], message, verdicts, &[values]];
+            calls.push(call(
+                "judge_certificate",
+                cartlozenge_judge_certificate,
+                &words,
+            ));
+        }
+        calls.push(call("covered", cartlozenge_covered, &[message]));
+        calls.push(call(
             "write_certificate",
             cartlozenge_write_certificate,
-            &[&[f], &out, &body, &votes],
-        ),
-    ]
+            &[&[f], &out, message, &votes],
+        ));
+    }
+    let payment = [0, 0, 1, 1_500, 0];
+    let note = [signature[0], 32];
+    calls.push(call(
+        "write_body",
+        cartlozenge_write_body,
+        &[&out, &payment, &note],
+    ));
+    calls.push(call(
+        "write_order",
+        cartlozenge_write_order,
+        &[&out, &payment, &note, &signature],
+    ));
+    calls.push(call(
+        "write_funding_order",
+        cartlozenge_write_funding_order,
+        &[&out, &[1, 0, 2_000]],
+    ));
+    calls
 }
 
 /// Every call anew for each paint, since a call changes what it is lent. The most that each function used.
@@ -281,7 +304,7 @@ fn measured() -> BTreeMap<&'static str, usize> {
     let mut most = BTreeMap::new();
     for f in [0, 1, 5] {
         for paint in PAINTS {
-            for group in [on_machines, on_ledgers, on_messages] {
+            for group in [with_messages, on_states, on_messages] {
                 for i in 0..group(&mut Lent::new(f)).len() {
                     let mut with = Lent::new(f);
                     let call = &group(&mut with)[i];

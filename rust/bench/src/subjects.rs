@@ -96,7 +96,7 @@ pub const SUBJECTS: [Subject; 4] = [
     },
 ];
 
-/// The three judges of a certificate, each once over every message.
+/// The judges of a certificate, each once over every message.
 pub fn judge_ours(f: u64, messages: &[Vec<u8>], verdicts: &[u8]) -> usize {
     let mut refused = 0;
     for message in messages {
@@ -115,11 +115,14 @@ pub fn judge_second(f: u64, messages: &[Vec<u8>], verdicts: &[u8]) -> usize {
     refused
 }
 
-pub fn judge_index(f: u64, messages: &[Vec<u8>], verdicts: &[u8]) -> usize {
+/// One of the two index-style judges.
+pub type Judge = fn(u64, &[u8], &[u8], &mut index::Values) -> u64;
+
+pub fn judge_index(judge: Judge, f: u64, messages: &[Vec<u8>], verdicts: &[u8]) -> usize {
     let mut refused = 0;
     for message in messages {
         let mut values = [0; 6];
-        let answer = index::judge(black_box(f), message, verdicts, &mut values);
+        let answer = judge(black_box(f), message, verdicts, &mut values);
         black_box(values);
         refused += (black_box(answer) != 0) as usize;
     }

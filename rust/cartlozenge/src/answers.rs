@@ -148,18 +148,26 @@ impl Above {
 /// What a body says, its note apart. The recipient is an account for kind 0, a ledger account for kind 1.
 #[derive(Clone, Copy, PartialEq, Eq, Debug)]
 pub struct Payment {
+    /// An account, 0 to 63.
     pub sender: u64,
+    /// 0 for an account, 1 for the ledger.
     pub kind: u64,
+    /// An account, or an account at the ledger, 0 to 65,535.
     pub recipient: u64,
+    /// Watt-hours, 1 to 1,000,000,000.
     pub amount: u64,
+    /// 0 to 4,095.
     pub sequence: u64,
 }
 
 /// What a funding order says.
 #[derive(Clone, Copy, PartialEq, Eq, Debug)]
 pub struct Funding {
+    /// 1 to 65,535.
     pub index: u64,
+    /// 0 to 63.
     pub account: u64,
+    /// Watt-hours, 1 to 1,000,000,000.
     pub amount: u64,
 }
 

@@ -17,6 +17,8 @@
 //! assert_eq!(read_account(&state, 2).unwrap().balance, 2000);
 //! ```
 
+// Every `unsafe` of this crate lends slices, arrays and numbers as they are to a function of the archive: pointers of slices are never null, a `&mut`
+// overlaps nothing, and the functions have no further condition and keep nothing.
 mod raw;
 
 mod answers;
@@ -25,10 +27,9 @@ mod machine;
 mod readers;
 mod writers;
 
-pub use answers::BodyRead;
 pub use answers::{
-    Certified, Confirmation, Funding, OrderRead, Payment, Payout, Pot, Reading, Refusal, Stretch,
-    Vote,
+    BodyRead, Certified, Confirmation, Funding, OrderRead, Payment, Payout, Pot, Reading, Refusal,
+    Stretch, Vote,
 };
 pub use ledger::{fresh_ledger, fund, is_redeemed, read_pot, redeem};
 pub use machine::{certificate, fresh_machine, funding_order, order, read_account, standing_body};

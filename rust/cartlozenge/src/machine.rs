@@ -6,24 +6,24 @@ use crate::raw;
 type Call = unsafe extern "C" fn(*mut u8, usize, *const u8, usize, *const u8, usize) -> u64;
 
 /// One of the calls on a state with a message and its verdicts.
-pub(crate) fn call(
+///
+/// # Safety
+///
+/// `call` is one of the exported functions of this shape.
+pub(crate) unsafe fn call(
     call: Call,
     state: &mut [u8],
     message: &[u8],
     verdicts: &[u8],
 ) -> Result<Above, Refusal> {
-    // Slices are lent as they are; the callee has no `requires` and keeps nothing.
-    let answer = unsafe {
-        call(
-            state.as_mut_ptr(),
-            state.len(),
-            message.as_ptr(),
-            message.len(),
-            verdicts.as_ptr(),
-            verdicts.len(),
-        )
-    };
-    accepted(answer)
+    accepted(call(
+        state.as_mut_ptr(),
+        state.len(),
+        message.as_ptr(),
+        message.len(),
+        verdicts.as_ptr(),
+        verdicts.len(),
+    ))
 }
 
 /// Makes the fresh state of machine `own` for a committee of 3f + 1. Refuses a wrong length, then f above 5 or `own` above 3f.
@@ -33,8 +33,9 @@ pub fn fresh_machine(state: &mut [u8], f: u64, own: u64) -> Result<(), Refusal> 
 }
 
 /// An order with its one verdict: a vote for its body, or a refusal.
+/// Refuses 16, 1, 2, 3, 4, 16 on the record, 8, 9, 10, 11.
 pub fn order(state: &mut [u8], message: &[u8], verdicts: &[u8]) -> Result<Vote, Refusal> {
-    let above = call(raw::cartlozenge_order, state, message, verdicts)?;
+    let above = unsafe { call(raw::cartlozenge_order, state, message, verdicts) }?;
     Ok(if above.flag() {
         Vote::Repeated
     } else {
@@ -43,12 +44,13 @@ pub fn order(state: &mut [u8], message: &[u8], verdicts: &[u8]) -> Result<Vote, 
 }
 
 /// A certificate with one verdict for each vote: sender and recipient are settled, whatever the balance.
+/// Refuses 16, 1, 2, 3, 5, 6, 4, 7, 16 on the records, 10, 16 on new balances.
 pub fn certificate(
     state: &mut [u8],
     message: &[u8],
     verdicts: &[u8],
 ) -> Result<Confirmation, Refusal> {
-    let above = call(raw::cartlozenge_certificate, state, message, verdicts)?;
+    let above = unsafe { call(raw::cartlozenge_certificate, state, message, verdicts) }?;
     let votes = above.bits(16, 8);
     Ok(if above.flag() {
         Confirmation::Already(votes)
@@ -58,11 +60,13 @@ pub fn certificate(
 }
 
 /// A funding order with its one verdict: the account is credited.
+/// Refuses 16, 1, 2, 3, 4, 16 on the record, 12, 16 on the new balance.
 pub fn funding_order(state: &mut [u8], message: &[u8], verdicts: &[u8]) -> Result<(), Refusal> {
-    call(raw::cartlozenge_funding_order, state, message, verdicts).map(|_| ())
+    unsafe { call(raw::cartlozenge_funding_order, state, message, verdicts) }.map(|_| ())
 }
 
 /// What the machine shows of an account.
+/// Refuses 16, 2 above account 63, 16 on the record.
 pub fn read_account(state: &[u8], account: u64) -> Result<Reading, Refusal> {
     let mut values = [0; 3];
     let mut balance = 0;

@@ -23,6 +23,7 @@ fn certified(values: &[u64; 6]) -> Certified {
 }
 
 /// Reads a body.
+/// Refuses 1, 2.
 pub fn read_body(message: &[u8]) -> Result<BodyRead<'_>, Refusal> {
     let mut values = [0; 6];
     let answer =
@@ -35,6 +36,7 @@ pub fn read_body(message: &[u8]) -> Result<BodyRead<'_>, Refusal> {
 }
 
 /// Reads an order.
+/// Refuses 1, 2.
 pub fn read_order(message: &[u8]) -> Result<OrderRead<'_>, Refusal> {
     let mut values = [0; 6];
     let answer =
@@ -48,6 +50,7 @@ pub fn read_order(message: &[u8]) -> Result<OrderRead<'_>, Refusal> {
 }
 
 /// Reads a funding order.
+/// Refuses 1, 2.
 pub fn read_funding_order(message: &[u8]) -> Result<Funding, Refusal> {
     let mut values = [0; 3];
     let answer = unsafe {
@@ -62,6 +65,7 @@ pub fn read_funding_order(message: &[u8]) -> Result<Funding, Refusal> {
 }
 
 /// Reads a certificate for a committee of 3f + 1, without verdicts.
+/// Refuses 2 for f, 1, 2, 5, 6, 7.
 pub fn read_certificate(f: u64, message: &[u8]) -> Result<Certified, Refusal> {
     let mut values = [0; 6];
     let answer = unsafe {
@@ -72,6 +76,7 @@ pub fn read_certificate(f: u64, message: &[u8]) -> Result<Certified, Refusal> {
 }
 
 /// Reads a certificate with one verdict for each vote.
+/// Refuses 2 for f, 1, 2, 3, 5, 6, 4, 7.
 pub fn judge_certificate(f: u64, message: &[u8], verdicts: &[u8]) -> Result<Certified, Refusal> {
     let mut values = [0; 6];
     let answer = unsafe {

@@ -4,6 +4,7 @@ use crate::answers::{accepted, Funding, Payment, Refusal};
 use crate::raw;
 
 /// Writes a body.
+/// Refuses 2, 18.
 pub fn write_body(out: &mut [u8], payment: Payment, note: &[u8]) -> Result<usize, Refusal> {
     let answer = unsafe {
         raw::cartlozenge_write_body(
@@ -22,6 +23,7 @@ pub fn write_body(out: &mut [u8], payment: Payment, note: &[u8]) -> Result<usize
 }
 
 /// Writes an order; the signature is the sender's, 64 bytes.
+/// Refuses 2, 18.
 pub fn write_order(
     out: &mut [u8],
     payment: Payment,
@@ -47,6 +49,7 @@ pub fn write_order(
 }
 
 /// Writes a funding order.
+/// Refuses 2, 18.
 pub fn write_funding_order(out: &mut [u8], funding: Funding) -> Result<usize, Refusal> {
     let answer = unsafe {
         raw::cartlozenge_write_funding_order(
@@ -61,6 +64,7 @@ pub fn write_funding_order(out: &mut [u8], funding: Funding) -> Result<usize, Re
 }
 
 /// Writes a certificate from a body and votes of 65 bytes each: machine number, 64 signature bytes.
+/// Refuses 2 for f, 1, 2, 5, 6, 7, 18.
 pub fn write_certificate(
     f: u64,
     out: &mut [u8],

@@ -1,11 +1,13 @@
 //! The order of checks: every set of faults at once. The first of them in document 01's order is answered.
 
-use crate::answers::{Funding, Payment};
+use crate::answers::{Confirmation, Funding, Payment, Stretch};
 use crate::calls::Compare;
 use crate::chance::Chance;
-use crate::laid::{self, HIGHEST_AMOUNT, HIGHEST_BALANCE, HIGHEST_POT};
+use crate::laid::{
+    self, HIGHEST_AMOUNT, HIGHEST_BALANCE, HIGHEST_POT, LEDGER_STATE, MACHINE_STATE,
+};
 use crate::pair::Pair;
-use crate::scenes::{F, PAYMENT, TO_LEDGER};
+use crate::scenes::{F, NOTE, PAYMENT, TO_LEDGER};
 
 /// A set of faults, numbered by their places in a list of refusals.
 #[derive(Clone, Copy)]
@@ -21,6 +23,11 @@ impl Faults {
         let place = (0..refusals.len()).find(|fault| self.has(*fault))?;
         Some(refusals[place])
     }
+
+    /// The whole answer of such a call.
+    fn answer<T>(self, refusals: &[u8], accepted: T) -> Result<T, u8> {
+        self.first(refusals).map_or(Ok(accepted), Err)
+    }
 }
 
 fn each_set(refusals: &[u8], mut visit: impl FnMut(Faults)) {
@@ -32,13 +39,17 @@ fn each_set(refusals: &[u8], mut visit: impl FnMut(Faults)) {
 pub fn run(compare: &mut Compare, chance: &mut Chance) {
     orders(compare, chance);
     certificates(compare, chance);
+    old_certificates(compare, chance);
     funding_orders(compare, chance);
     redeeming(compare, chance);
     funding(compare, chance);
     judging(compare);
     writing_certificates(compare);
-    writing_orders(compare);
+    writing_bodies(compare);
+    writing_funding_orders(compare);
     reading_states(compare, chance);
+    fresh_states(compare, chance);
+    standing_bodies(compare, chance);
 }
 
 fn spoil_header(state: &mut [u8]) {
@@ -130,41 +141,65 @@ fn certificate(payment: Payment, faults: Faults, from: usize) -> (Vec<u8>, Vec<u
     (message, verdicts)
 }
 
+/// Header, the message, sender's record, recipient's record, sequence, sender's limit, recipient's limit.
+const OF_CERTIFICATES: [u8; 13] = [16, 1, 2, 3, 5, 6, 4, 7, 16, 16, 10, 16, 16];
+
+fn machine_of_certificates(faults: Faults) -> Vec<u8> {
+    let mut machine = laid::machine(F, 1, 0);
+    let amount = PAYMENT.amount as i64;
+    let balance = if faults.has(11) {
+        amount - 1 - HIGHEST_BALANCE
+    } else {
+        -20
+    };
+    let other = if faults.has(12) { HIGHEST_BALANCE } else { 20 };
+    laid::put_record(&mut machine, PAYMENT.sender, 5, balance, &[]);
+    laid::put_record(&mut machine, PAYMENT.recipient, 9, other, &[]);
+    if faults.has(8) {
+        spoil_record(&mut machine, PAYMENT.sender);
+    }
+    if faults.has(9) {
+        spoil_record(&mut machine, PAYMENT.recipient);
+    }
+    if faults.has(0) {
+        spoil_header(&mut machine);
+    }
+    machine
+}
+
 fn certificates(compare: &mut Compare, chance: &mut Chance) {
-    // Header, the message, sender's record, recipient's record, sequence, sender's limit, recipient's limit.
-    let refusals = [16, 1, 2, 3, 5, 6, 4, 7, 16, 16, 10, 16, 16];
     let mut state = Pair::of(&laid::machine(F, 1, 0), chance);
-    each_set(&refusals, |faults| {
-        let mut machine = laid::machine(F, 1, 0);
-        let (next, amount) = (5, PAYMENT.amount as i64);
-        let balance = if faults.has(11) {
-            amount - 1 - HIGHEST_BALANCE
-        } else {
-            -20
-        };
-        let other = if faults.has(12) { HIGHEST_BALANCE } else { 20 };
-        laid::put_record(&mut machine, PAYMENT.sender, next, balance, &[]);
-        laid::put_record(&mut machine, PAYMENT.recipient, 9, other, &[]);
-        if faults.has(8) {
-            spoil_record(&mut machine, PAYMENT.sender);
-        }
-        if faults.has(9) {
-            spoil_record(&mut machine, PAYMENT.recipient);
-        }
-        if faults.has(0) {
-            spoil_header(&mut machine);
-        }
-        let sequence = if faults.has(10) { next + 1 } else { next };
+    each_set(&OF_CERTIFICATES, |faults| {
         let payment = Payment {
-            sequence,
+            sequence: if faults.has(10) { 6 } else { 5 },
             ..PAYMENT
         };
         let (message, verdicts) = certificate(payment, faults, 1);
+        state.restore(&machine_of_certificates(faults));
+        let answer = compare.certificate(&mut state, &message, &verdicts);
+        let expected = faults.first(&OF_CERTIFICATES);
+        compare.record.expect("certificate", answer.err(), expected);
+    });
+}
+
+/// Below the next sequence every fault before it is refused, and none behind it: *already*, whatever the limits.
+fn old_certificates(compare: &mut Compare, chance: &mut Chance) {
+    let before_sequence = &OF_CERTIFICATES[..10];
+    let mut state = Pair::of(&laid::machine(F, 1, 0), chance);
+    each_set(&OF_CERTIFICATES, |faults| {
+        let payment = Payment {
+            sequence: if faults.has(10) { 0 } else { 4 },
+            ..PAYMENT
+        };
+        let machine = machine_of_certificates(faults);
+        // Too few votes are refused, so there are three where one is answered.
+        let expected = faults.answer(before_sequence, Confirmation::Already(3));
+        let (message, verdicts) = certificate(payment, faults, 1);
         state.restore(&machine);
         let answer = compare.certificate(&mut state, &message, &verdicts);
-        compare
-            .record
-            .expect("certificate", answer.err(), faults.first(&refusals));
+        compare.record.expect("old certificate", answer, expected);
+        let changed = state.bytes() != machine;
+        compare.record.expect("old certificate", changed, false);
     });
 }
 
@@ -299,19 +334,50 @@ fn writing_certificates(compare: &mut Compare) {
     });
 }
 
-fn writing_orders(compare: &mut Compare) {
-    // Value, note, signature, room.
+/// Faults from 0 to 4: sender, kind, recipient, amount, sequence.
+fn payment_of(faults: Faults) -> Payment {
+    Payment {
+        sender: if faults.has(0) { 64 } else { 63 },
+        kind: if faults.has(1) { 2 } else { 1 },
+        recipient: if faults.has(2) { 65_536 } else { 65_535 },
+        amount: if faults.has(3) { 0 } else { 7 },
+        sequence: if faults.has(4) { 4_096 } else { 4_095 },
+    }
+}
+
+/// The writers of a body and of an order.
+fn writing_bodies(compare: &mut Compare) {
+    // The payment, note, signature, room.
+    let refusals = [2, 2, 2, 2, 2, 2, 2, 18];
+    each_set(&refusals, |faults| {
+        let payment = payment_of(faults);
+        let note = vec![1; if faults.has(5) { 33 } else { 32 }];
+        let signature = vec![1; if faults.has(6) { 65 } else { 64 }];
+        let short = usize::from(faults.has(7));
+        let answer = compare.write_order(127 - short, payment, &note, &signature);
+        let expected = faults.answer(&refusals, 127);
+        compare.record.expect("write order", answer, expected);
+        // A body has no signature.
+        let without = Faults(faults.0 & !(1 << 6));
+        let answer = compare.write_body(57 - short, payment, &note);
+        let expected = without.answer(&refusals, 57);
+        compare.record.expect("write body", answer, expected);
+    });
+}
+
+fn writing_funding_orders(compare: &mut Compare) {
+    // Index, account, amount, room.
     let refusals = [2, 2, 2, 18];
     each_set(&refusals, |faults| {
-        let amount = if faults.has(0) { 0 } else { 7 };
-        let note = vec![1; if faults.has(1) { 33 } else { 32 }];
-        let signature = vec![1; if faults.has(2) { 65 } else { 64 }];
-        let room = if faults.has(3) { 126 } else { 127 };
-        let payment = Payment { amount, ..PAYMENT };
-        let answer = compare.write_order(room, payment, &note, &signature);
-        compare
-            .record
-            .expect("write order", answer.err(), faults.first(&refusals));
+        let funding = Funding {
+            index: if faults.has(0) { 0 } else { 1 },
+            account: if faults.has(1) { 64 } else { 63 },
+            amount: HIGHEST_AMOUNT + u64::from(faults.has(2)),
+        };
+        let room = if faults.has(3) { 15 } else { 16 };
+        let answer = compare.write_funding_order(room, funding);
+        let expected = faults.answer(&refusals, 16);
+        compare.record.expect("write funding", answer, expected);
     });
 }
 
@@ -348,4 +414,94 @@ fn reading_states(compare: &mut Compare, chance: &mut Chance) {
             .record
             .expect("log", answer.err(), faults.first(&refusals));
     });
+}
+
+fn fresh_states(compare: &mut Compare, chance: &mut Chance) {
+    // Length, f, own number.
+    let refusals = [16, 2, 2];
+    each_set(&refusals, |faults| {
+        let f = if faults.has(1) { 6 } else { 5 };
+        // No machine of any committee has the number 19.
+        let own = if faults.has(2) { 19 } else { 15 };
+        for (shorter, longer) in [(1, 0), (0, 1), (MACHINE_STATE, 0)] {
+            let wrong = |right: usize| right.saturating_sub(shorter) + longer;
+            let mut lengths = (MACHINE_STATE, LEDGER_STATE);
+            if faults.has(0) {
+                lengths = (wrong(lengths.0), wrong(lengths.1));
+            }
+            let mut machine = Pair::of(&chance.bytes(lengths.0), chance);
+            let answer = compare.fresh_machine(&mut machine, f, own);
+            let expected = faults.answer(&refusals, ());
+            compare.record.expect("fresh machine", answer, expected);
+            let mut ledger = Pair::of(&chance.bytes(lengths.1), chance);
+            let answer = compare.fresh_ledger(&mut ledger, f);
+            let expected = faults.answer(&refusals[..2], ());
+            compare.record.expect("fresh ledger", answer, expected);
+        }
+    });
+}
+
+/// An empty part on any of the first five; without them the pending body, otherwise the message's.
+fn standing_bodies(compare: &mut Compare, chance: &mut Chance) {
+    // Length, header, layout, value, record, nothing pending, out of use.
+    let empty = [16, 16, 1, 2, 16];
+    for set in 0..1 << 7 {
+        let faults = Faults(set);
+        let payment = Payment {
+            amount: if faults.has(3) { 0 } else { 1_500 },
+            ..PAYMENT
+        };
+        let mut message = laid::order(&laid::body(payment, &[]));
+        if faults.has(2) {
+            message.push(0);
+        }
+        let mut state = Pair::of(&machine_of_standing(faults), chance);
+        let found = compare.standing_body(&message, &mut state);
+        let expected = faults.answer(&empty, standing(faults));
+        compare
+            .record
+            .expect("standing body", found, expected.unwrap_or(NO_PART));
+    }
+}
+
+const NO_PART: Stretch = Stretch {
+    in_state: false,
+    place: 0,
+    length: 0,
+};
+
+/// Where the body stands if nothing is refused: 25 bytes in the message, or 32 in the state.
+fn standing(faults: Faults) -> Stretch {
+    let in_state = !faults.has(5) && !faults.has(6);
+    let in_record = laid::record_place(PAYMENT.sender) + 12;
+    Stretch {
+        in_state,
+        place: if in_state {
+            in_record
+        } else {
+            laid::BODY_PLACE
+        },
+        length: if in_state { 32 } else { 25 },
+    }
+}
+
+fn machine_of_standing(faults: Faults) -> Vec<u8> {
+    let mut machine = laid::machine(F, 1, 0);
+    let mut pending = Vec::new();
+    if !faults.has(5) {
+        pending = laid::body(PAYMENT, &NOTE);
+    }
+    if !faults.has(6) {
+        laid::put_record(&mut machine, PAYMENT.sender, 0, 2_000, &pending);
+    }
+    if faults.has(4) {
+        spoil_record(&mut machine, PAYMENT.sender);
+    }
+    if faults.has(1) {
+        spoil_header(&mut machine);
+    }
+    if faults.has(0) {
+        machine.push(0);
+    }
+    machine
 }

@@ -6,14 +6,8 @@ use crate::laid;
 use crate::pair::Pair;
 use crate::scenes::{self, Scene, F, NOTE, PAYMENT, TO_LEDGER};
 
-/// Bytes that mean something somewhere: small numbers, tags, limits.
-const TELLING: [u8; 20] = [
-    0x00, 0x01, 0x02, 0x03, 0x04, 0x05, 0x10, 0x11, 0x20, 0x21, 0x30, 0x31, 0x32, 0x3F, 0x40, 0x41,
-    0x7F, 0x80, 0xFE, 0xFF,
-];
-
-/// Each byte as every other value, each cut at both ends, each byte left out, and bytes put in at each place.
-fn each_damage(message: &[u8], chance: &mut Chance, mut visit: impl FnMut(&[u8])) {
+/// Each byte as every other value, each cut at both ends, each byte left out, and every byte put in at each place.
+fn each_damage(message: &[u8], mut visit: impl FnMut(&[u8])) {
     visit(message);
     let mut changed = message.to_vec();
     for place in 0..message.len() {
@@ -27,12 +21,10 @@ fn each_damage(message: &[u8], chance: &mut Chance, mut visit: impl FnMut(&[u8])
         visit(&[&message[..place], &message[place + 1..]].concat());
     }
     for place in 0..=message.len() {
-        for value in TELLING {
-            visit(&[&message[..place], &[value], &message[place..]].concat());
-        }
-        for _ in 0..3 {
-            let value = chance.byte();
-            visit(&[&message[..place], &[value], &message[place..]].concat());
+        let mut longer = [&message[..place], &[0], &message[place..]].concat();
+        for value in 0..=255 {
+            longer[place] = value;
+            visit(&longer);
         }
     }
 }
@@ -46,7 +38,7 @@ pub fn run(compare: &mut Compare, chance: &mut Chance) {
     }
     on_machine(compare, chance, &scenes::pending(&[0x05; 32]));
     for (payment, note) in [(PAYMENT, [].as_slice()), (TO_LEDGER, &NOTE)] {
-        readers(compare, chance, &laid::body(payment, note));
+        readers(compare, &laid::body(payment, note));
     }
     for ledger in scenes::ledgers(TO_LEDGER) {
         redeeming(compare, chance, &ledger, &laid::body(TO_LEDGER, &[]));
@@ -54,7 +46,7 @@ pub fn run(compare: &mut Compare, chance: &mut Chance) {
     let ledger = &scenes::ledgers(TO_LEDGER)[0];
     redeeming(compare, chance, ledger, &laid::body(TO_LEDGER, &NOTE));
     let funding = scenes::fresh(&[]).funding_order();
-    each_damage(&funding, chance, |message| {
+    each_damage(&funding, |message| {
         funding_order_again(compare, message);
     });
     exchanged(compare, chance);
@@ -63,16 +55,16 @@ pub fn run(compare: &mut Compare, chance: &mut Chance) {
 fn on_machine(compare: &mut Compare, chance: &mut Chance, scene: &Scene) {
     let mut state = Pair::of(&scene.machine, chance);
     let verdicts = scene.verdicts();
-    each_damage(&scene.order(), chance, |message| {
+    each_damage(&scene.order(), |message| {
         compare.standing_body(message, &mut state);
         compare.order(&mut state, message, &[1]).ok();
         state.restore(&scene.machine);
     });
-    each_damage(&scene.certificate(), chance, |message| {
+    each_damage(&scene.certificate(), |message| {
         compare.certificate(&mut state, message, &verdicts).ok();
         state.restore(&scene.machine);
     });
-    each_damage(&scene.funding_order(), chance, |message| {
+    each_damage(&scene.funding_order(), |message| {
         compare.funding_order(&mut state, message, &[1]).ok();
         state.restore(&scene.machine);
     });
@@ -80,26 +72,26 @@ fn on_machine(compare: &mut Compare, chance: &mut Chance, scene: &Scene) {
 
 fn redeeming(compare: &mut Compare, chance: &mut Chance, ledger: &[u8], body: &[u8]) {
     let mut state = Pair::of(ledger, chance);
-    each_damage(&laid::certificate(body, &[0, 1, 3]), chance, |message| {
+    each_damage(&laid::certificate(body, &[0, 1, 3]), |message| {
         compare.redeem(&mut state, message, &[1; 3]).ok();
         state.restore(ledger);
     });
 }
 
-fn readers(compare: &mut Compare, chance: &mut Chance, body: &[u8]) {
+fn readers(compare: &mut Compare, body: &[u8]) {
     let run = laid::run_of_votes(&[0, 1, 3]);
-    each_damage(body, chance, |message| {
+    each_damage(body, |message| {
         body_again(compare, message);
         compare.write_certificate(F, 300, message, &run).ok();
     });
-    each_damage(&laid::order(body), chance, |message| {
+    each_damage(&laid::order(body), |message| {
         order_again(compare, message);
     });
-    each_damage(&laid::certificate(body, &[0, 1, 3]), chance, |message| {
+    each_damage(&laid::certificate(body, &[0, 1, 3]), |message| {
         certificate_again(compare, message);
         compare.judge_certificate(F, message, &[1; 3]).ok();
     });
-    each_damage(&run, chance, |votes| {
+    each_damage(&run, |votes| {
         compare.write_certificate(F, 300, body, votes).ok();
     });
 }

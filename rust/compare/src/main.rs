@@ -46,6 +46,9 @@ const PARTS: [Part; 9] = [
     ("random runs", runs::run),
 ];
 
+/// Fewer calls are no comparison: some part was left out or ended early.
+const FEWEST_CALLS: u64 = 1_000_000;
+
 struct Wanted {
     seed: u64,
     steps: u64,
@@ -126,6 +129,12 @@ fn finish(compare: &mut Compare, start: Instant) {
     if !missing.is_empty() {
         compare.record.broken(&missing.join("; "));
     }
+    let calls = compare.record.calls;
+    if calls < FEWEST_CALLS {
+        compare.record.broken(&format!(
+            "{calls} calls compared, fewer than {FEWEST_CALLS}"
+        ));
+    }
     println!("{:.1} s", start.elapsed().as_secs_f64());
-    println!("{} calls compared, all alike", compare.record.calls);
+    println!("{calls} calls compared, all alike");
 }

@@ -122,6 +122,18 @@ pub fn pending(note: &[u8]) -> Scene {
     scene(PAYMENT, note, 0, 2_000, Pending::This)
 }
 
+/// A sender whose balance is below zero.
+pub fn below_zero(note: &[u8]) -> Scene {
+    scene(of_sequence(3), note, 3, -AMOUNT, Pending::Nothing)
+}
+
+/// A sender whose record does not end with zeros.
+pub fn ill_formed(note: &[u8]) -> Scene {
+    let mut scene = pending(note);
+    scene.machine[laid::record_place(PAYMENT.sender) + 70] = 1;
+    scene
+}
+
 /// The states that a day brings: fresh, funded, pending, another pending, settled, settled with the next one pending.
 pub fn daily(note: &[u8]) -> Vec<Scene> {
     vec![
@@ -146,7 +158,7 @@ pub fn limits(note: &[u8]) -> Vec<Scene> {
     let last = of_sequence(laid::HIGHEST_SEQUENCE);
     let nothing = Pending::Nothing;
     let scenes = vec![
-        scene(of_sequence(3), note, 3, -AMOUNT, nothing),
+        below_zero(note),
         scene(last, note, 4_095, 2_000, Pending::This),
         scene(last, note, 4_096, 2_000, nothing),
         with_recipient(

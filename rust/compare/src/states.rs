@@ -1,5 +1,5 @@
 //! Ill-formed states: every byte of a header and of a touched record as every value, records that contradict themselves,
-//! and logs with every byte.
+//! own numbers at the end of every committee, and logs with every byte.
 
 use crate::answers::Payment;
 use crate::calls::Compare;
@@ -17,6 +17,7 @@ pub fn run(compare: &mut Compare, chance: &mut Chance) {
     for scene in scenes {
         each_byte(compare, chance, &scene);
     }
+    committees(compare, chance);
     records(compare, chance);
     untouched_records(compare, chance);
     ledger_headers(compare, chance);
@@ -100,6 +101,43 @@ fn each_value(
     }
     before[place] = right;
     bench.state.put(place, right);
+}
+
+/// Own numbers at the end of every committee, with as many votes as it can give.
+fn committees(compare: &mut Compare, chance: &mut Chance) {
+    for f in 0..=5 {
+        for own in [3 * f, 3 * f + 1, 255] {
+            let mut made = Pair::of(&chance.bytes(laid::MACHINE_STATE), chance);
+            let refusal = compare.fresh_machine(&mut made, f, own).err();
+            let expected = (own > 3 * f).then_some(2);
+            compare.record.expect("fresh machine", refusal, expected);
+            for note in [[].as_slice(), &[5; 32]] {
+                for scene in scenes::all(note) {
+                    in_committee(compare, chance, &scene, f, own);
+                }
+            }
+        }
+    }
+}
+
+/// Every call on the machine of a scene that has this header.
+fn in_committee(compare: &mut Compare, chance: &mut Chance, scene: &Scene, f: u64, own: u64) {
+    let mut before = scene.machine.clone();
+    before[0] = f as u8;
+    before[1] = own as u8;
+    let mut bench = Bench::new(scene, chance);
+    bench.state.restore(&before);
+    for votes in 2 * f..=3 * f + 2 {
+        let voters: Vec<u8> = (0..votes as u8).collect();
+        bench.certificate = laid::certificate(&scene.body, &voters);
+        bench.verdicts = vec![1; voters.len()];
+        bench.sender(compare, &before);
+        bench.recipient(compare, &before);
+    }
+    let sender = scene.payment.sender;
+    let refusal = compare.read_account(&mut bench.state, sender).err();
+    let expected = (own > 3 * f).then_some(16);
+    compare.record.expect("own number", refusal, expected);
 }
 
 /// Records in which several things are wrong at once, or seem so.

@@ -5,7 +5,7 @@ use crate::calls::Compare;
 use crate::chance::Chance;
 use crate::laid;
 use crate::pair::Pair;
-use crate::scenes::{PAYMENT, TO_LEDGER};
+use crate::scenes::{self, Scene, NOTE, PAYMENT, TO_LEDGER};
 
 const BAD_VERDICTS: [u8; 6] = [0, 2, 3, 0x7F, 0x81, 0xFF];
 
@@ -27,6 +27,7 @@ pub fn run(compare: &mut Compare, chance: &mut Chance) {
     for voters in sequences(&[0, 1, 2, 3, 4], 5) {
         bench.every_call(compare, &voters);
     }
+    verdicts_on_states(compare, chance);
 }
 
 fn first(count: u64) -> Vec<u8> {
@@ -228,4 +229,80 @@ fn single_verdicts(compare: &mut Compare, chance: &mut Chance, f: u64) {
         compare.funding_order(&mut state, &funding, &verdicts).ok();
         state.restore(&machine);
     }
+}
+
+/// Every verdict list on every state: a wrong number and a bad verdict are refused before anything that the state could bring.
+fn verdicts_on_states(compare: &mut Compare, chance: &mut Chance) {
+    for note in [[].as_slice(), &NOTE] {
+        let mut scenes = scenes::all(note);
+        scenes.extend([scenes::below_zero(note), scenes::ill_formed(note)]);
+        for scene in scenes {
+            verdicts_on_machine(compare, chance, &scene);
+        }
+        for payment in [PAYMENT, TO_LEDGER] {
+            let body = laid::body(payment, note);
+            for ledger in scenes::ledgers(payment) {
+                verdicts_on_ledger(compare, chance, &ledger, &body);
+            }
+        }
+    }
+}
+
+fn verdicts_on_machine(compare: &mut Compare, chance: &mut Chance, scene: &Scene) {
+    let mut state = Pair::of(&scene.machine, chance);
+    let (order, funding) = (scene.order(), scene.funding_order());
+    each_verdict_list(1, |verdicts| {
+        let answer = compare.order(&mut state, &order, verdicts);
+        expect_verdicts(compare, answer.err(), verdicts, 1);
+        state.restore(&scene.machine);
+        let answer = compare.funding_order(&mut state, &funding, verdicts);
+        expect_verdicts(compare, answer.err(), verdicts, 1);
+        state.restore(&scene.machine);
+    });
+    let message = scene.certificate();
+    let votes = scene.verdicts().len();
+    each_verdict_list(votes, |verdicts| {
+        let answer = compare.certificate(&mut state, &message, verdicts);
+        expect_verdicts(compare, answer.err(), verdicts, votes);
+        state.restore(&scene.machine);
+    });
+}
+
+fn verdicts_on_ledger(compare: &mut Compare, chance: &mut Chance, ledger: &[u8], body: &[u8]) {
+    let mut state = Pair::of(ledger, chance);
+    for voters in [first(3), first(4)] {
+        let message = laid::certificate(body, &voters);
+        each_verdict_list(voters.len(), |verdicts| {
+            let answer = compare.redeem(&mut state, &message, verdicts);
+            expect_verdicts(compare, answer.err(), verdicts, voters.len());
+            state.restore(ledger);
+        });
+    }
+}
+
+/// Every number of verdicts around the right one, all good and all bad, and each verdict as every value.
+fn each_verdict_list(right: usize, mut visit: impl FnMut(&[u8])) {
+    for count in (0..=right + 3).chain([255, 256, 256 + right]) {
+        visit(&vec![1; count]);
+        visit(&vec![0; count]);
+    }
+    for place in 0..right {
+        let mut verdicts = vec![1; right];
+        for value in 0..=255 {
+            verdicts[place] = value;
+            visit(&verdicts);
+        }
+    }
+}
+
+/// Of a message that has no other fault before its verdicts. What good ones bring is the state's matter.
+fn expect_verdicts(compare: &Compare, refusal: Option<u8>, verdicts: &[u8], right: usize) {
+    let expected = if verdicts.len() != right {
+        Some(3)
+    } else if verdicts.iter().any(|verdict| *verdict != 1) {
+        Some(4)
+    } else {
+        refusal.filter(|number| ![3, 4].contains(number))
+    };
+    compare.record.expect("verdicts", refusal, expected);
 }
