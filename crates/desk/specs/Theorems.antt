@@ -1,4 +1,5 @@
--- The numbers tell the answers apart: two answers that a call can give are equal if they cross the interface as the same number. Assumes nothing.
+-- The numbers tell the answers apart: two answers that a call can give are equal if they cross the interface as the same number, or as the same number and
+-- array. Assumes nothing.
 use Prim.Native.Nat.{ℕ, zero, suc, _+_, _*_, _/_, _%_, _^_, _<_, _≤_}
 use mathlib.Core.Path.{_≡_, refl, sym, ap, _∙_}
 use mathlib.Core.Bool.{Bool, true, false, _&&_, _||_, false≢true}
@@ -6,16 +7,19 @@ use mathlib.Core.List.{List, [], _∷_}
 use native.Mathlib.Omega.{arith}
 use native.Mathlib.Nat.{mul-comm}
 use lib.Arith.{digits-div, digits-mod}
-use lib.ListN.{length}
+use lib.ListN.{length, length-append}
 use lib.Dec.{leb, ltb, eqb, eqb·suc-zero, lit<}
-use borrow.Author.Tests.{leb-true, ltb-true, eqb-true}
+use borrow.Author.Tests.{leb-true, ltb-true, eqb-true, ne-eqb}
+use lib.IntN.{ℤ, pos}
 use Rattle.octets.specs.Octets.{two, number, same}
+use Rattle.octets.proofs.Laws.{put-all}
 use Rattle.wire.specs.Numbers.{isFaults, isMachine, isAccount, isAmount, isSequence, isNote}
 use Rattle.wire.specs.Fields.{need, size, laid}
-use Rattle.wire.specs.Messages.{bodyFields, orderFields, certificateFields, payment, isPayment, inside, bodyBytes, orderBytes, funding, isFunding, fundingBytes}
+use Rattle.wire.specs.Messages.{bodyFields, orderFields, certificateFields, payment, isPayment, inside, bodyBytes, orderBytes, funding, isFunding, fundingBytes, fundingFields}
 use Rattle.wire.specs.Votes.{votes, signersIn, signersOf, known, rising, good, certificateBytes}
 use Rattle.wire.specs.Refusals.{Said, gives, refuses}
-use Rattle.wire.specs.Readers.{readOrderPayment, readFunding, judgedBy, isBody, isOrder, coveredAt}
+use Rattle.wire.specs.Readers.{judged as judge}
+use Rattle.wire.specs.Readers.{readOrderPayment, readFunding, judgedBy, isBody, isOrder, coveredAt, readPayment, readBody, readOrder, readCertificateOf, readCertificate}
 use Rattle.wire.specs.Writers.{Written, writes, writeBody, writeOrder, writeFunding, writeVotedOf, writeCertificate}
 use Rattle.wire.specs.declared.answers.Stretch.{Stretch}
 use Rattle.wire.specs.declared.kinds.Payment.{Payment}
@@ -25,6 +29,7 @@ use Rattle.wire.proofs.Laid.{order-laid, certificate-laid}
 use Rattle.writing.proofs.Written.{length-body, length-order, length-funding, payment-fits}
 use Rattle.states.specs.Headers.{lastIndex}
 use Rattle.states.specs.Outcomes.{Outcome, refused}
+use Rattle.records.specs.Answers.{AccountShown, unshown}
 use Rattle.records.specs.Balances.{nought, highest}
 use Rattle.records.specs.States as machine
 use Rattle.records.specs.Calls as machines
@@ -36,7 +41,7 @@ use Rattle.roundtrip.specs.VoteLaws.{length-signers}
 use Rattle.roundtrip.specs.Certificate.{certifies-size}
 use Rattle.invariants.specs.Outcomes.{judged, need-case, cond-case}
 use Rattle.invariants.specs.Bounds as bounds
-use Rattle.desk.specs.Layout.{Fit, beside, packed, noBits, orderBits, certificateBits, fundBits, redeemBits, logBits, writtenBits, stretchBits, stretchSaid}
+use Rattle.desk.specs.Layout.{Fit, beside, packed, noBits, orderBits, certificateBits, fundBits, redeemBits, logBits, writtenBits, stretchBits, stretchSaid, Left, left, AccountLeft, showing, noted, reading}
 
 -- what a call can answer: values that fill their bits, or a refusal that has room in the lowest byte
 pub data Says (widths : List ℕ) (said : Said) : Type 0 where
@@ -294,3 +299,103 @@ certificate-written-says f out body run =
       all-rising = all-rising;
       enough = enough;
     })))))))))
+
+-- what a call answers that puts its values into an array of n: as many values, or a refusal, which has none
+pub data Shows (n : ℕ) (said : Said) : Type 0 where
+  fills : said .number ≡ 0 → length (said .values) ≡ n → Shows n said
+  stays : 0 < said .number → said .values ≡ [] → Shows n said
+
+-- Two answers of such a call are equal if number and array are
+pub array-apart : (vs : List ℕ) (a b : Said) → Shows (length vs) a → Shows (length vs) b → showing a vs ≡ showing b vs → a ≡ b
+array-apart vs a b (fills n l) (fills m k) e =
+    let values = sym (put-all vs (a .values) l) ∙ ap (λ (x : Left). x .holds) e ∙ put-all vs (b .values) k in
+    λ i. record { number = (n ∙ sym m) i; values = values i }
+array-apart vs a b (fills n l) (stays p z) e = absurd (let q : a .number ≡ b .number = ap (λ (x : Left). x .number) e in omega arith)
+array-apart vs a b (stays p z) (fills n l) e = absurd (let q : a .number ≡ b .number = ap (λ (x : Left). x .number) e in omega arith)
+array-apart vs a b (stays p z) (stays q y) e = λ i. record { number = e i .number; values = (z ∙ sym y) i }
+
+-- an account's answer has its balance beside it, and a refusal none
+pub record AccountShows (n : ℕ) (shown : AccountShown) : Type 0 where
+  pub answers : Shows n (shown .answer)
+  pub balances : 0 < shown .answer .number → shown .balance ≡ pos 0
+
+-- the balance that is left, by whether there is an answer
+answered-balance : (shown : AccountShown) (vs : List ℕ) (z : ℤ) → shown .answer .number ≡ 0 → reading shown vs z .balance ≡ shown .balance
+answered-balance shown vs z h = rw h
+
+pub account-apart : (vs : List ℕ) (z : ℤ) (a b : AccountShown) → AccountShows (length vs) a → AccountShows (length vs) b → reading a vs z ≡ reading b vs z → a ≡ b
+account-apart vs z a b h k e =
+    let answer : a .answer ≡ b .answer = array-apart vs (a .answer) (b .answer) (h .answers) (k .answers) (λ i. left (e i .number) (e i .values)) in
+    let number : a .answer .number ≡ b .answer .number = ap (λ (x : Said). x .number) answer in
+    let balance : a .balance ≡ b .balance = same (a .answer .number) refl number in
+    λ i. record { answer = answer i; balance = balance i }
+  where
+    same : (n : ℕ) → a .answer .number ≡ n → a .answer .number ≡ b .answer .number → a .balance ≡ b .balance
+    same zero f g = sym (answered-balance a vs z f) ∙ ap (λ (x : AccountLeft). x .balance) e ∙ answered-balance b vs z (sym g ∙ f)
+    same (suc n) f g = h .balances (omega arith) ∙ sym (k .balances (omega arith))
+
+pub pot-shows : (s : List ℕ) → Shows 2 (ledgers.readPot ledger.base s)
+unfolding ledgers.readPot
+pot-shows s = need-case (Shows 2) (ledger.isState ledger.base s) _ _ (stays (lit< tt) refl) (λ _. fills refl refl)
+
+payment-shows : (b : List ℕ) → Shows 5 (readPayment b)
+unfolding readPayment
+payment-shows b =
+    need-case (Shows 5) (laid b bodyFields) _ _ (stays (lit< tt) refl) (λ _.
+    need-case (Shows 5) (isPayment (payment b)) _ _ (stays (lit< tt) refl) (λ _. fills refl refl))
+
+-- the length of a note is one value more
+noted-shows : {n : ℕ} (said : Said) (note : ℕ) → Shows n said → Shows (n + 1) (noted said note)
+noted-shows said note (fills e l) = rw e (fills refl (length-append (said .values) (note ∷ []) ∙ ap (λ (k : ℕ). k + 1) l))
+noted-shows said note (stays p z) = rw (ne-eqb (said .number) 0 (λ e. omega arith)) (stays p z)
+
+pub body-shows : (b : List ℕ) → Shows 6 (noted (readBody b .answer) (readBody b .note .length))
+unfolding readBody
+body-shows b = noted-shows (readPayment b) _ (payment-shows b)
+
+pub order-shows : (m : List ℕ) → Shows 6 (noted (readOrder m .answer) (readOrder m .note .length))
+unfolding readOrder
+order-shows m =
+    noted-shows (readOrderPayment m) _ (need-case (Shows 5) (laid m orderFields) _ _ (stays (lit< tt) refl) (λ _. payment-shows (inside m)))
+
+pub funding-order-shows : (m : List ℕ) → Shows 3 (readFunding m)
+unfolding readFunding
+funding-order-shows m =
+    need-case (Shows 3) (laid m fundingFields) _ _ (stays (lit< tt) refl) (λ _.
+    need-case (Shows 3) (isFunding (funding m)) _ _ (stays (lit< tt) refl) (λ _. fills refl refl))
+
+pub certificate-shows : (f : ℕ) (m : List ℕ) → Shows 6 (readCertificate f m)
+unfolding readCertificateOf
+certificate-shows f m =
+    let test = need-case (Shows 6) in
+    test (isFaults f) _ _ (stays (lit< tt) refl) (λ _.
+    test (laid m certificateFields) _ _ (stays (lit< tt) refl) (λ _.
+    test (laid (inside m) bodyFields) _ _ (stays (lit< tt) refl) (λ _.
+    test (isPayment (payment (inside m))) _ _ (stays (lit< tt) refl) (λ _.
+    test (known (3 * f) (signersIn m)) _ _ (stays (lit< tt) refl) (λ _.
+    test (rising (signersIn m)) _ _ (stays (lit< tt) refl) (λ _.
+    test (leb (2 * f + 1) (length (signersIn m))) _ _ (stays (lit< tt) refl) (λ _. fills refl refl)))))))
+
+pub judged-shows : (f : ℕ) (m verdicts : List ℕ) → Shows 6 (judge f m verdicts)
+unfolding judgedBy
+judged-shows f m verdicts =
+    let test = need-case (Shows 6) in
+    test (isFaults f) _ _ (stays (lit< tt) refl) (λ _.
+    test (laid m certificateFields) _ _ (stays (lit< tt) refl) (λ _.
+    test (laid (inside m) bodyFields) _ _ (stays (lit< tt) refl) (λ _.
+    test (isPayment (payment (inside m))) _ _ (stays (lit< tt) refl) (λ _.
+    test (eqb (length verdicts) (votes m)) _ _ (stays (lit< tt) refl) (λ _.
+    test (known (3 * f) (signersIn m)) _ _ (stays (lit< tt) refl) (λ _.
+    test (rising (signersIn m)) _ _ (stays (lit< tt) refl) (λ _.
+    test (good verdicts) _ _ (stays (lit< tt) refl) (λ _.
+    test (leb (2 * f + 1) (length (signersIn m))) _ _ (stays (lit< tt) refl) (λ _. fills refl refl)))))))))
+
+pub account-shows : (s : List ℕ) (account : ℕ) → AccountShows 3 (machines.account machine.base s account)
+unfolding machines.account
+account-shows s account =
+    let test = need-case (AccountShows 3) in
+    let refused : (n : ℕ) → 0 < n → AccountShows 3 (unshown n) = λ n h. record { answers = stays h refl; balances = λ _. refl } in
+    test (machine.isState machine.base s) _ _ (refused 16 (lit< tt)) (λ _.
+    test (isAccount account) _ _ (refused 2 (lit< tt)) (λ _.
+    test (machine.isFormed machine.base s account) _ _ (refused 16 (lit< tt)) (λ _.
+    record { answers = fills refl refl; balances = λ h. absurd (omega arith) })))
