@@ -96,35 +96,40 @@ pub const SUBJECTS: [Subject; 4] = [
     },
 ];
 
-/// The judges of a certificate, each once over every message.
-pub fn judge_ours(f: u64, messages: &[Vec<u8>], verdicts: &[u8]) -> usize {
+/// How many of the messages a judge of certificates refuses.
+fn refused(messages: &[Vec<u8>], refuses: impl Fn(&[u8]) -> bool) -> usize {
     let mut refused = 0;
     for message in messages {
-        let answer = cartlozenge::judge_certificate(black_box(f), message, verdicts);
-        refused += black_box(answer).is_err() as usize;
+        refused += refuses(message) as usize;
     }
     refused
 }
 
+pub fn judge_ours(f: u64, messages: &[Vec<u8>], verdicts: &[u8]) -> usize {
+    refused(messages, |message| {
+        black_box(cartlozenge::judge_certificate(
+            black_box(f),
+            message,
+            verdicts,
+        ))
+        .is_err()
+    })
+}
+
 pub fn judge_second(f: u64, messages: &[Vec<u8>], verdicts: &[u8]) -> usize {
-    let mut refused = 0;
-    for message in messages {
-        let answer = second::judge_certificate(black_box(f), message, verdicts);
-        refused += black_box(answer).is_err() as usize;
-    }
-    refused
+    refused(messages, |message| {
+        black_box(second::judge_certificate(black_box(f), message, verdicts)).is_err()
+    })
 }
 
 /// One of the two index-style judges.
 pub type Judge = fn(u64, &[u8], &[u8], &mut index::Values) -> u64;
 
 pub fn judge_index(judge: Judge, f: u64, messages: &[Vec<u8>], verdicts: &[u8]) -> usize {
-    let mut refused = 0;
-    for message in messages {
+    refused(messages, |message| {
         let mut values = [0; 6];
         let answer = judge(black_box(f), message, verdicts, &mut values);
         black_box(values);
-        refused += (black_box(answer) != 0) as usize;
-    }
-    refused
+        black_box(answer) != 0
+    })
 }
