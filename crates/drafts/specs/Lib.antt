@@ -1,0 +1,2 @@
+-- Messages written and shown by hand.
+pub mod Drafts

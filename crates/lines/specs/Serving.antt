@@ -1,0 +1,51 @@
+-- Lines that arrive together: each is answered in its turn.
+use Prim.Native.Nat.{ℕ, zero, suc, _+_}
+use mathlib.Core.Bool.{Bool}
+use mathlib.Core.List.{List, _++_}
+use lib.ListN.{length, take, drop}
+use lib.Dec.{leb, ltb}
+use Rattle.wire.specs.Fields.{need}
+use Rattle.text.specs.Ascii.{ascii}
+use Rattle.text.specs.Pages.{Page, said}
+use Rattle.text.specs.Words.{lineEnd}
+use Rattle.lines.specs.Calls.{Reply, machineLine, ledgerLine, Desk, desk}
+use Rattle.lines.specs.declared.serving.Role.{Role}
+
+-- who answers
+abbrev pub replyOf : Role → List ℕ → List ℕ → Reply
+replyOf Role.Machine s line = machineLine s line
+replyOf Role.Ledger s line = ledgerLine s line
+
+-- one line answered; a line feed ends the answer
+unfoldable pub answered : Role → Desk → List ℕ → Desk
+answered role d line = desk (replyOf role (d .state) line .state) (said (d .page) (replyOf role (d .state) line .text ++ ascii "\n"))
+
+-- no answer is longer than 256 bytes: where less room is left, the page is full
+abbrev pub hasRoom : Page → Bool
+hasRoom p = leb (p .length + 256) (length (p .bytes))
+
+-- how much of the input was taken, and what stands on the desk then
+pub record Served : Type 0 where
+  pub taken : ℕ
+  pub desk : Desk
+
+-- the two together, as a contract states them
+abbrev pub atDesk : ℕ → Desk → Served
+atDesk taken d = record { taken = taken; desk = d }
+
+-- the first line of what is left of an input
+abbrev pub nextLine : List ℕ → ℕ → List ℕ
+nextLine input from = take (lineEnd (drop from input)) (drop from input)
+
+-- the lines of an input from a place on, answered one after another as long as there is a whole line and room; the first argument
+-- bounds their number
+unfoldable pub servedFrom : ℕ → Role → List ℕ → ℕ → Desk → Served
+servedFrom zero role input from d = atDesk from d
+servedFrom (suc n) role input from d =
+    need (hasRoom (d .page)) (atDesk from d)
+    (need (ltb (lineEnd (drop from input)) (length (drop from input))) (atDesk from d)
+    (servedFrom n role input (from + lineEnd (drop from input) + 1) (answered role d (nextLine input from))))
+
+-- no input has more lines than bytes
+abbrev pub served : Role → List ℕ → Desk → Served
+served role input d = servedFrom (length input) role input 0 d
