@@ -2,8 +2,19 @@
 ghost use mathlib.Core.Path.{_≡_};
 ghost use Prim.Native.Nat.{_<_};
 ghost use mathlib.Core.List.{[], _∷_};
+ghost use lib.ListN.{take};
 ghost use Rattle.text.specs.Pages as pages;
 ghost use Rattle.text.specs.Pages.{page, said};
+
+// The first n bytes, or all where there are fewer.
+pub fn up_to(bytes: &[u8], n: usize) -> &[u8]
+    ensures { λ r. ⌜ now r ≡ take n (now (bytes .entry)) ⌝ }
+{
+    if bytes.len() < n {
+        return bytes;
+    }
+    octets::cut(bytes, 0, n)
+}
 
 pub fn say(out: &mut [u8], at: usize, text: &[u8]) -> usize
     ensures { λ r. ⌜ page (now (out .exit)) r ≡ said (page (now (out .entry)) at) (now (text .entry)) ⌝ }

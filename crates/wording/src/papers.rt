@@ -16,6 +16,7 @@ use crate::refusals::refused;
 use text::page::say;
 use text::page::say_decimal;
 use text::page::say_hexadecimal;
+use text::page::up_to;
 use wire::answers::BodyAnswer;
 use wire::answers::BodyRead;
 use wire::answers::FundingAnswer;
@@ -24,16 +25,6 @@ use wire::answers::WriteAnswer;
 use wire::kinds::Funding;
 use wire::kinds::Note;
 use wire::kinds::Payment;
-
-// The first n bytes, or all where there are fewer.
-fn up_to(bytes: &[u8], n: usize) -> &[u8]
-    ensures { λ r. ⌜ now r ≡ take n (now (bytes .entry)) ⌝ }
-{
-    if bytes.len() < n {
-        return bytes;
-    }
-    octets::cut(bytes, 0, n)
-}
 
 // The answer of a writer, and what it wrote into.
 pub fn wrote(out: &mut [u8], at: usize, answer: WriteAnswer, bytes: &[u8]) -> usize

@@ -1,0 +1,257 @@
+// Lines are read as they arrive and answered. No answer is printed before the state that it speaks of is on disk; lines that arrive
+// together share one write.
+use crate::complaints::complain;
+use crate::complaints::fail;
+use crate::files;
+use crate::files::Loaded;
+use crate::guard;
+use libc::STDIN_FILENO;
+use libc::STDOUT_FILENO;
+use lines::files::is_file;
+use lines::serving;
+use lines::serving::Role;
+use text::page::say;
+use text::page::up_to;
+use text::words;
+use wording::refusals::Fault;
+use wording::refusals::unread;
+
+// How many bytes of the input buffer are held, whether the rest of a line that was too long is still to come, and whether to go on.
+struct Held {
+    filled: usize,
+    skips: bool,
+    goes_on: bool,
+}
+
+// The state goes to disk if it changed, and then the answers are printed.
+fn settle(path: &[u8], state: &[u8], saved: &mut [u8], answers: &[u8]) -> bool {
+    if !octets::same(state, saved) {
+        if !files::replace(path, saved, state) {
+            return false;
+        }
+        keep(state, saved);
+    }
+    if !io::write_all(STDOUT_FILENO, answers) {
+        complain(
+            path,
+            b"answers cannot be printed; the state has what they say",
+        );
+        return false;
+    }
+    true
+}
+
+// Copies the state, as far as both go.
+fn keep(state: &[u8], saved: &mut [u8]) {
+    let mut i = 0;
+    while i < state.len() {
+        if i >= saved.len() {
+            return;
+        }
+        saved[i] = state[i];
+        i += 1;
+    }
+}
+
+// Moves what stands behind the first `from` of `filled` bytes to the front, and answers how many these are.
+fn move_front(input: &mut [u8], from: usize, filled: usize) -> usize {
+    let mut to = 0;
+    let mut i = from;
+    while i < filled {
+        if i >= input.len() {
+            return to;
+        }
+        input[to] = input[i];
+        to += 1;
+        i += 1;
+    }
+    to
+}
+
+// Answers the whole lines that are held, as many as fit a page.
+fn answer_some(
+    role: Role,
+    path: &[u8],
+    state: &mut [u8],
+    saved: &mut [u8],
+    input: &mut [u8],
+    held: Held,
+) -> Held {
+    let mut out = io::large_buffer();
+    let progress = serving::serve(role, state, up_to(input, held.filled), &mut out);
+    let goes_on = settle(path, state, saved, up_to(&out, progress.length));
+    let filled = move_front(input, progress.taken, held.filled);
+    Held {
+        filled,
+        skips: false,
+        goes_on,
+    }
+}
+
+fn refuse(fault: Fault) {
+    let mut out = [0u8; 256];
+    let end = unread(&mut out, 0, fault);
+    let last = say(&mut out, end, b"\n");
+    io::write_all(STDOUT_FILENO, up_to(&out, last));
+}
+
+// What is held begins with the rest of a line that was refused; that rest ends at `end`.
+fn skip(input: &mut [u8], held: Held, end: usize) -> Held {
+    let filled = move_front(input, end, held.filled);
+    Held {
+        filled,
+        skips: false,
+        goes_on: true,
+    }
+}
+
+// The input has ended. A line without an end may be half of another.
+fn finish(held: Held) -> Held {
+    if 0 < held.filled {
+        if !held.skips {
+            refuse(Fault::NoEnd);
+        }
+    }
+    Held {
+        filled: 0,
+        skips: false,
+        goes_on: false,
+    }
+}
+
+// Whether a read that failed may be tried again: it was interrupted, or nothing has arrived yet.
+fn is_passing() -> bool {
+    let error = os::errno();
+    if error == libc::EINTR {
+        return true;
+    }
+    if error == libc::EAGAIN {
+        libc::sched_yield();
+        return true;
+    }
+    fail(b"standard input");
+    false
+}
+
+// Reads what has arrived behind what is held.
+fn read_more(input: &mut [u8], held: Held) -> Held {
+    let filled = held.filled;
+    if filled >= input.len() {
+        return finish(held);
+    }
+    let space = &mut input[filled..];
+    let got = libc::read(STDIN_FILENO, space);
+    if got == 0 {
+        return finish(held);
+    }
+    if got < 0 {
+        return Held {
+            filled,
+            skips: held.skips,
+            goes_on: is_passing(),
+        };
+    }
+    let n = io::count(got, space);
+    Held {
+        filled: filled + n,
+        skips: held.skips,
+        goes_on: true,
+    }
+}
+
+// No whole line is held. What cannot become one any more is refused or, if that was done, dropped.
+fn await_line(input: &mut [u8], held: Held) -> Held {
+    if held.skips {
+        return read_more(
+            input,
+            Held {
+                filled: 0,
+                skips: true,
+                goes_on: true,
+            },
+        );
+    }
+    if held.filled > words::LINE {
+        refuse(Fault::TooLong);
+        return Held {
+            filled: 0,
+            skips: true,
+            goes_on: true,
+        };
+    }
+    read_more(input, held)
+}
+
+fn turn(
+    role: Role,
+    path: &[u8],
+    state: &mut [u8],
+    saved: &mut [u8],
+    input: &mut [u8],
+    held: Held,
+) -> Held {
+    let end = words::line_end(up_to(input, held.filled));
+    if end >= held.filled {
+        return await_line(input, held);
+    }
+    if held.skips {
+        return skip(input, held, end + 1);
+    }
+    answer_some(role, path, state, saved, input, held)
+}
+
+// A proved loop has to end, and nothing says that the input does. So turns are counted down, from a number that no run uses up.
+fn converse(role: Role, path: &[u8], state: &mut [u8], saved: &mut [u8]) {
+    let mut space = io::large_buffer();
+    let input: &mut [u8] = &mut space;
+    let mut held = Held {
+        filled: 0,
+        skips: false,
+        goes_on: true,
+    };
+    let mut turns = u64::MAX;
+    while 0 < turns {
+        held = turn(role, path, state, saved, input, held);
+        if !held.goes_on {
+            return;
+        }
+        turns -= 1;
+    }
+}
+
+fn open(role: Role, path: &[u8], state: &mut [u8], saved: &mut [u8]) -> bool {
+    match files::load(path, state) {
+        Loaded::Unopened => {
+            fail(path);
+            return false;
+        }
+        Loaded::Unlike => {
+            complain(
+                path,
+                b"refused 16: the file has not the length of such a state; it is left alone",
+            );
+            return false;
+        }
+        Loaded::Whole => {}
+    }
+    if !is_file(role, state) {
+        complain(
+            path,
+            b"refused 16: the state is ill-formed; it is left alone",
+        );
+        return false;
+    }
+    keep(state, saved);
+    true
+}
+
+// Serves the state in a file until the input ends.
+pub(crate) fn run(role: Role, path: &[u8], state: &mut [u8], saved: &mut [u8]) {
+    if !guard::take(path) {
+        return;
+    }
+    if open(role, path, state, saved) {
+        converse(role, path, state, saved);
+    }
+    guard::give_back(path);
+}
