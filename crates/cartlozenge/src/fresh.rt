@@ -1,7 +1,8 @@
 // A new state file. One that is there is never overwritten.
-use crate::files;
 use crate::usage::usage;
+use keeping::files;
 use libc::STDOUT_FILENO;
+use refusals::refused;
 use states::answers::FreshAnswer;
 use states::committee::Committee;
 use text::page::say;
@@ -9,7 +10,6 @@ use text::page::up_to;
 use text::words;
 use wire::answers::Refusal;
 use wire::kinds::Machine;
-use wording::refusals::refused;
 
 fn number_at(i: usize) -> u64 {
     let mut word = [0u8; 32];

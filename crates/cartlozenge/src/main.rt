@@ -1,8 +1,5 @@
 // Cartlozenge: a settlement machine or the purchase ledger over a state file, and messages written and shown by hand.
-mod complaints;
-mod files;
 mod fresh;
-mod guard;
 mod session;
 mod usage;
 

@@ -1,20 +1,20 @@
 // Lines are read as they arrive and answered. No answer is printed before the state that it speaks of is on disk; lines that arrive
 // together share one write.
-use crate::complaints::complain;
-use crate::complaints::fail;
-use crate::files;
-use crate::files::Loaded;
-use crate::guard;
+use keeping::complaints::complain;
+use keeping::complaints::fail;
+use keeping::files;
+use keeping::files::Loaded;
+use keeping::guard;
 use libc::STDIN_FILENO;
 use libc::STDOUT_FILENO;
 use lines::files::is_file;
 use lines::serving;
 use lines::serving::Role;
+use refusals::Fault;
+use refusals::unread;
 use text::page::say;
 use text::page::up_to;
 use text::words;
-use wording::refusals::Fault;
-use wording::refusals::unread;
 
 // How many bytes of the input buffer are held, whether the rest of a line that was too long is still to come, and whether to go on.
 struct Held {

@@ -1,6 +1,8 @@
 // Words, numbers and bytes on standard output. A refusal is its number, as in document 01.
 use libc::STDOUT_FILENO;
 use records::answers::Reading;
+use text::page::say_signed;
+use text::page::up_to;
 use wire::answers::Refusal;
 use wire::answers::WriteAnswer;
 use wire::kinds::Funding;
@@ -57,14 +59,10 @@ pub(crate) fn funding(o: Funding) {
     number(b", amount ", o.amount);
 }
 
-// How far a number is from 0.
-fn magnitude(n: i64) -> u64 {
-    if n < 0 {
-        // One nearer to 0, so that the lowest number has room too.
-        let nearer = -1 - n;
-        return nearer as u64 + 1;
-    }
-    n as u64
+fn signed(n: i64) {
+    let mut space = [0u8; 32];
+    let end = say_signed(&mut space, 0, n);
+    text(up_to(&space, end));
 }
 
 pub(crate) fn reading(r: Reading) {
@@ -74,9 +72,6 @@ pub(crate) fn reading(r: Reading) {
     }
     number(b"next ", next.0);
     text(b", balance ");
-    if r.balance < 0 {
-        text(b"-");
-    }
-    number(b"", magnitude(r.balance));
+    signed(r.balance);
     number(b", free to spend ", r.free);
 }

@@ -16,9 +16,9 @@ use Rattle.ledger.specs.Answers.{FundOutcome}
 use Rattle.text.specs.Ascii.{ascii}
 use Rattle.text.specs.Pages.{Page, said}
 use Rattle.text.specs.Words.{wordAt, hasWords, numberOf, isBytes, bytesOf, isLine}
-use Rattle.wording.specs.Refusals.{faultText}
+use Rattle.refusals.specs.Refusals.{faultText}
 use Rattle.wording.specs.Answers.{orderText, certificateText, fundingText, accountText, standingText, fundText, redeemText, potText, logText}
-use Rattle.wording.specs.declared.refusals.Fault.{Fault}
+use Rattle.refusals.specs.declared.Fault.{Fault}
 use Rattle.lines.specs.declared.calls.Paper.{Paper}
 
 -- the text that answers a line, and the state afterwards

@@ -5,12 +5,11 @@ ghost use Rattle.text.specs.Pages.{page};
 ghost use Rattle.text.specs.Words.{isLine};
 ghost use Rattle.lines.specs.Calls as calls;
 ghost use Rattle.lines.specs.Calls.{desk, replied};
+use refusals::Fault;
+use refusals::unread;
 use text::words;
 use wire::kinds::Account;
 use wire::kinds::Sequence;
-use wording::answers;
-use wording::refusals::Fault;
-use wording::refusals::unread;
 
 // The calls that take a message and its verdicts.
 pub enum Paper {
@@ -31,18 +30,18 @@ fn handle(
     ensures { λ r. ⌜ desk (now (state .exit)) (page (now (out .exit)) r) ≡ replied (page (now (out .entry)) at) (calls.handled paper (now (state .entry)) (now (message .entry)) (now (verdicts .entry))) ⌝ }
 {
     match paper {
-        Paper::Order => answers::order(out, at, machine::handle_order(state, message, verdicts)),
-        Paper::Certificate => answers::certificate(
+        Paper::Order => wording::order(out, at, machine::handle_order(state, message, verdicts)),
+        Paper::Certificate => wording::certificate(
             out,
             at,
             machine::handle_certificate(state, message, verdicts),
         ),
-        Paper::Funding => answers::funding(
+        Paper::Funding => wording::funding(
             out,
             at,
             machine::handle_funding(state, message, verdicts),
         ),
-        Paper::Redemption => answers::redeem(out, at, ledger::redeem(state, message, verdicts)),
+        Paper::Redemption => wording::redeem(out, at, ledger::redeem(state, message, verdicts)),
     }
 }
 
@@ -82,7 +81,7 @@ fn account_line(state: &[u8], line: &[u8], out: &mut [u8], at: usize) -> usize
         return unread(out, at, Fault::WordCount);
     }
     let account = Account(words::number(words::word(line, 1)));
-    answers::account(out, at, account, machine::read_account(state, account))
+    wording::account(out, at, account, machine::read_account(state, account))
 }
 
 fn standing_line(state: &[u8], line: &[u8], out: &mut [u8], at: usize) -> usize
@@ -98,7 +97,7 @@ fn standing_line(state: &[u8], line: &[u8], out: &mut [u8], at: usize) -> usize
     }
     let mut message = [0u8; words::BYTES];
     let m = words::read_bytes(&mut message, first);
-    answers::standing(
+    wording::standing(
         out,
         at,
         machine::standing_body(octets::cut(&message, 0, m), state),
@@ -115,7 +114,7 @@ fn fund_line(state: &mut [u8], line: &[u8], out: &mut [u8], at: usize) -> usize
     let amount = words::number(words::word(line, 2));
     let mut order = [0u8; 16];
     let answer = ledger::fund(state, &mut order, account, amount);
-    answers::fund(out, at, answer, &order)
+    wording::fund(out, at, answer, &order)
 }
 
 fn pot_line(state: &[u8], line: &[u8], out: &mut [u8], at: usize) -> usize
@@ -124,7 +123,7 @@ fn pot_line(state: &[u8], line: &[u8], out: &mut [u8], at: usize) -> usize
     if !words::has_words(line, 1) {
         return unread(out, at, Fault::WordCount);
     }
-    answers::pot(out, at, ledger::read_pot(state))
+    wording::pot(out, at, ledger::read_pot(state))
 }
 
 fn log_line(state: &[u8], line: &[u8], out: &mut [u8], at: usize) -> usize
@@ -135,7 +134,7 @@ fn log_line(state: &[u8], line: &[u8], out: &mut [u8], at: usize) -> usize
     }
     let account = Account(words::number(words::word(line, 1)));
     let sequence = Sequence(words::number(words::word(line, 2)));
-    answers::log(
+    wording::log(
         out,
         at,
         account,

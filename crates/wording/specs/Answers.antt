@@ -8,7 +8,7 @@ use Rattle.wire.specs.Refusals.{Said}
 use Rattle.records.specs.Answers.{AccountShown}
 use Rattle.text.specs.Ascii.{ascii}
 use Rattle.text.specs.Pages.{decimal, signed, hexadecimal}
-use Rattle.wording.specs.Refusals.{answerText, value}
+use Rattle.refusals.specs.Refusals.{answerText, value}
 
 -- how many machines
 abbrev pub machinesText : ℕ → List ℕ

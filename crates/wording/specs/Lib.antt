@@ -1,4 +1,2 @@
--- What operators read: each answer of 01 as a line of text, in words and with its number.
-pub mod Refusals
+-- The answers of a machine and of the ledger in words.
 pub mod Answers
-pub mod Papers

@@ -1,0 +1,140 @@
+// State files. A new state is written beside the old one, synced and renamed, and then the folder is synced.
+use crate::complaints::complain;
+use crate::complaints::fail;
+use text::page::say;
+use text::page::say_signed;
+use text::page::up_to;
+
+pub enum Loaded {
+    Whole,
+    Unlike,
+    Unopened,
+}
+
+// Fills the state from a file, which must have that many bytes and no more.
+pub fn load(path: &[u8], state: &mut [u8]) -> Loaded {
+    let file = os::open_read(path);
+    if file < 0 {
+        return Loaded::Unopened;
+    }
+    let got = io::read_full(file, state);
+    let mut more = [0u8; 1];
+    let extra = io::read_full(file, &mut more);
+    libc::close(file);
+    if extra > 0 {
+        return Loaded::Unlike;
+    }
+    if got < state.len() {
+        return Loaded::Unlike;
+    }
+    Loaded::Whole
+}
+
+// Whether the file holds these very bytes.
+fn holds(path: &[u8], bytes: &[u8]) -> bool {
+    let mut space = io::large_buffer();
+    let file = os::open_read(path);
+    if file < 0 {
+        return false;
+    }
+    let got = io::read_full(file, &mut space);
+    libc::close(file);
+    octets::same(&space[..got], bytes)
+}
+
+// Makes a file of these bytes and waits until they are on their device.
+pub fn make(path: &[u8], bytes: &[u8]) -> bool {
+    let file = os::create(path);
+    if file < 0 {
+        fail(path);
+        return false;
+    }
+    let mut is_made = io::write_all(file, bytes);
+    if is_made {
+        is_made = libc::fsync(file) == 0;
+    }
+    if !is_made {
+        fail(path);
+        os::unlink(path);
+    }
+    libc::close(file);
+    is_made
+}
+
+// Where the name of a path begins: behind its last slash.
+fn folder_end(path: &[u8]) -> usize {
+    let mut i = path.len();
+    while 0 < i {
+        if path[i - 1] == b'/' {
+            return i;
+        }
+        i -= 1;
+    }
+    0
+}
+
+fn sync_folder(folder: &[u8]) -> bool {
+    let file = os::open_read(folder);
+    if file < 0 {
+        fail(folder);
+        return false;
+    }
+    let is_synced = libc::fsync(file) == 0;
+    if !is_synced {
+        fail(folder);
+    }
+    libc::close(file);
+    is_synced
+}
+
+// Waits until the names in a path's folder are on their device.
+pub fn sync_name(path: &[u8]) -> bool {
+    let end = folder_end(path);
+    if end == 0 {
+        return sync_folder(b".");
+    }
+    sync_folder(up_to(path, end))
+}
+
+// The number of this process, in digits.
+pub(crate) fn own_digits(out: &mut [u8]) -> usize {
+    say_signed(out, 0, libc::getpid() as i64)
+}
+
+// The name beside a path under which a process writes.
+pub(crate) fn name_new(path: &[u8], digits: &[u8], name: &mut [u8]) -> usize {
+    let ended = say(name, 0, path);
+    let dotted = say(name, ended, b".");
+    let numbered = say(name, dotted, digits);
+    say(name, numbered, b".new")
+}
+
+fn own_name(path: &[u8], name: &mut [u8]) -> usize {
+    let mut space = [0u8; 32];
+    let n = own_digits(&mut space);
+    name_new(path, up_to(&space, n), name)
+}
+
+// Puts a state in the place of the old one, which the file must still hold.
+pub fn replace(path: &[u8], old: &[u8], state: &[u8]) -> bool {
+    let mut space = io::buffer();
+    let n = own_name(path, &mut space);
+    let name = up_to(&space, n);
+    if !make(name, state) {
+        return false;
+    }
+    if !holds(path, old) {
+        complain(
+            path,
+            b"another program changed the state; stopped, and nothing was written",
+        );
+        os::unlink(name);
+        return false;
+    }
+    if os::rename(name, path) < 0 {
+        fail(path);
+        os::unlink(name);
+        return false;
+    }
+    sync_name(path)
+}

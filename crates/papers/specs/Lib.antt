@@ -1,0 +1,2 @@
+-- Messages in words.
+pub mod Papers

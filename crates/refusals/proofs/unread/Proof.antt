@@ -1,0 +1,28 @@
+-- The number is said, then what it means. Assumes nothing.
+use borrow.Author.Needs.{needs}
+use Rattle.text.proofs.PageLaws.{said-then}
+use Rattle.refusals.proofs.unread.Statement.{statement}
+use Rattle.refusals.proofs.unread.Tie as tie
+
+fault-number-requires : tie.Need-fault-number-requires
+fault-number-requires c κs = search needs
+
+say-number-requires : tie.Need-say-number-requires
+say-number-requires c κs = search needs
+
+say-fault-requires : tie.Need-say-fault-requires
+say-fault-requires c κs = search needs
+
+same-length : tie.Need-same-length
+same-length c = search needs
+
+returns : tie.Need-returns
+returns c =
+    let reason = c .before .before in
+    let numbered = reason .before .before .before .before in
+    said-then _ _ _ (rw (numbered .before .fault-number .ensures) at (numbered .say-number .ensures)) (reason .say-fault .ensures)
+
+pub unread-spec : {M : Type 1} → statement M
+unread-spec =
+    tie.close
+    (tie.spec fault-number-requires say-number-requires say-fault-requires same-length returns)
