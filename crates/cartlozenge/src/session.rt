@@ -23,49 +23,38 @@ struct Held {
     goes_on: bool,
 }
 
-// The state goes to disk if it changed, and then the answers are printed.
-fn settle(path: &[u8], state: &[u8], saved: &mut [u8], answers: &[u8]) -> bool {
-    if !octets::same(state, saved) {
-        if !files::replace(path, saved, state) {
-            return false;
-        }
-        keep(state, saved);
+// The state goes to disk if it changed.
+fn save(path: &[u8], state: &[u8], saved: &mut [u8]) -> bool {
+    if octets::same(state, saved) {
+        return true;
     }
-    if !io::write_all(STDOUT_FILENO, answers) {
+    if !files::replace(path, saved, state) {
+        return false;
+    }
+    keep(state, saved);
+    true
+}
+
+// And then the answers are printed.
+fn settle(path: &[u8], state: &[u8], saved: &mut [u8], answers: &[u8]) -> bool {
+    if !save(path, state, saved) {
+        return false;
+    }
+    let is_printed = io::write_all(STDOUT_FILENO, answers);
+    if !is_printed {
         complain(
             path,
             b"answers cannot be printed; the state has what they say",
         );
-        return false;
     }
-    true
+    is_printed
 }
 
-// Copies the state, as far as both go.
+// What was saved last. The two have one length.
 fn keep(state: &[u8], saved: &mut [u8]) {
-    let mut i = 0;
-    while i < state.len() {
-        if i >= saved.len() {
-            return;
-        }
-        saved[i] = state[i];
-        i += 1;
+    if state.len() <= saved.len() {
+        octets::copy(saved, 0, state);
     }
-}
-
-// Moves what stands behind the first `from` of `filled` bytes to the front, and answers how many these are.
-fn move_front(input: &mut [u8], from: usize, filled: usize) -> usize {
-    let mut to = 0;
-    let mut i = from;
-    while i < filled {
-        if i >= input.len() {
-            return to;
-        }
-        input[to] = input[i];
-        to += 1;
-        i += 1;
-    }
-    to
 }
 
 // Answers the whole lines that are held, as many as fit a page.
@@ -80,7 +69,7 @@ fn answer_some(
     let mut out = io::large_buffer();
     let progress = serving::serve(role, state, up_to(input, held.filled), &mut out);
     let goes_on = settle(path, state, saved, up_to(&out, progress.length));
-    let filled = move_front(input, progress.taken, held.filled);
+    let filled = words::move_front(input, progress.taken, held.filled);
     Held {
         filled,
         skips: false,
@@ -97,7 +86,7 @@ fn refuse(fault: Fault) {
 
 // What is held begins with the rest of a line that was refused; that rest ends at `end`.
 fn skip(input: &mut [u8], held: Held, end: usize) -> Held {
-    let filled = move_front(input, end, held.filled);
+    let filled = words::move_front(input, end, held.filled);
     Held {
         filled,
         skips: false,
@@ -245,13 +234,18 @@ fn open(role: Role, path: &[u8], state: &mut [u8], saved: &mut [u8]) -> bool {
     true
 }
 
+fn serve_file(role: Role, path: &[u8], state: &mut [u8], saved: &mut [u8]) {
+    if !open(role, path, state, saved) {
+        return;
+    }
+    converse(role, path, state, saved);
+}
+
 // Serves the state in a file until the input ends.
 pub(crate) fn run(role: Role, path: &[u8], state: &mut [u8], saved: &mut [u8]) {
     if !guard::take(path) {
         return;
     }
-    if open(role, path, state, saved) {
-        converse(role, path, state, saved);
-    }
+    serve_file(role, path, state, saved);
     guard::give_back(path);
 }

@@ -13,9 +13,9 @@ use Rattle.wire.specs.declared.kinds.Payment.{Payment}
 use Rattle.wire.specs.declared.kinds.Funding.{Funding}
 use Rattle.text.specs.Ascii.{ascii}
 use Rattle.text.specs.Words.{wordAt, hasWords, numberOf, isBytes, bytesOf, isLine}
-use Rattle.wording.specs.Refusals.{refusedText, faultText}
-use Rattle.wording.specs.Papers.{writtenText, bodyText, orderReadText, certificateReadText, fundingReadText}
-use Rattle.wording.specs.declared.refusals.Fault.{Fault}
+use Rattle.refusals.specs.Refusals.{refusedText, faultText}
+use Rattle.papers.specs.Papers.{writtenText, bodyText, orderReadText, certificateReadText, fundingReadText}
+use Rattle.refusals.specs.declared.Fault.{Fault}
 
 -- what a message says. It is told by its first tag; a certificate is read for f
 unfoldable pub shownText : ℕ → List ℕ → List ℕ

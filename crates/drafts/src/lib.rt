@@ -2,9 +2,9 @@
 ghost use mathlib.Core.Path.{_≡_};
 ghost use Rattle.text.specs.Pages.{page, said};
 ghost use Rattle.drafts.specs.Drafts as drafts;
+use refusals::Fault;
+use refusals::unread;
 use text::words;
-use wording::refusals::Fault;
-use wording::refusals::unread;
 
 mod showing;
 mod writers;

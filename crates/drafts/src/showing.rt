@@ -5,19 +5,18 @@ ghost use Rattle.wire.specs.Votes.{signersIn};
 ghost use Rattle.wire.specs.Readers.{readCertificate};
 ghost use Rattle.text.specs.Pages.{page, said};
 ghost use Rattle.text.specs.Words.{hasWords, isLine};
-ghost use Rattle.wording.specs.Papers.{certificateReadText};
+ghost use Rattle.papers.specs.Papers.{certificateReadText};
 ghost use Rattle.drafts.specs.Drafts as drafts;
 use messages::body;
 use messages::certificate;
 use messages::funding;
 use messages::order;
+use refusals::Fault;
+use refusals::refused;
+use refusals::unread;
 use text::words;
 use wire::answers::CertificateAnswer;
 use wire::answers::Refusal;
-use wording::papers;
-use wording::refusals::Fault;
-use wording::refusals::refused;
-use wording::refusals::unread;
 
 fn show_certificate(f: u64, message: &[u8], out: &mut [u8], at: usize) -> usize
     ensures { λ r. ⌜ page (now (out .exit)) r ≡ said (page (now (out .entry)) at) (certificateReadText (readCertificate f (now (message .entry))) (signersIn (now (message .entry)))) ⌝ }

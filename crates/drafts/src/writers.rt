@@ -4,15 +4,14 @@ ghost use mathlib.Core.Bool.{true};
 ghost use Rattle.text.specs.Pages.{page, said};
 ghost use Rattle.text.specs.Words.{wordAt, numberOf, isLine};
 ghost use Rattle.drafts.specs.Drafts as drafts;
+use refusals::Fault;
+use refusals::unread;
 use text::words;
 use wire::kinds::Account;
 use wire::kinds::Funding;
 use wire::kinds::FundingIndex;
 use wire::kinds::Payment;
 use wire::kinds::Sequence;
-use wording::papers;
-use wording::refusals::Fault;
-use wording::refusals::unread;
 
 // The longest message.
 const MESSAGE: usize = 1148;

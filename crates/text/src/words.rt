@@ -2,7 +2,7 @@
 ghost use mathlib.Core.Path.{_≡_};
 ghost use mathlib.Core.Bool.{true};
 ghost use Prim.Native.Nat.{_≤_, _*_, _%_};
-ghost use lib.ListN.{length, drop};
+ghost use lib.ListN.{length, take, drop};
 ghost use Rattle.octets.specs.Octets.{put, cut};
 ghost use Rattle.text.specs.Words as words;
 
@@ -217,4 +217,21 @@ pub fn line_end(s: &[u8]) -> usize
         i += 1;
     }
     i
+}
+
+// Moves what stands from `from` up to `filled` to the front, and answers how many bytes that are.
+pub fn move_front(s: &mut [u8], from: usize, filled: usize) -> usize
+    ensures { λ r. ⌜ (now (s .exit) ≡ put (now (s .entry)) 0 (drop from (take filled (now (s .entry))))) × (r ≡ length (drop from (take filled (now (s .entry))))) ⌝ }
+{
+    let mut to = 0;
+    let mut i = from;
+    while i < filled {
+        if i >= s.len() {
+            return to;
+        }
+        s[to] = s[i];
+        to += 1;
+        i += 1;
+    }
+    to
 }
