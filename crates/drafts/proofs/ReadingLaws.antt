@@ -1,11 +1,11 @@
--- Laws of what is read: what a test of the code says of what is printed; a word that means bytes fits its array, and from there goes to a writer; where a certificate that was read has its votes. Assumes nothing.
+-- Laws of what is read: what a test of the code says of what is printed; a word that means bytes goes from its array to a writer; where a certificate that was read has its votes. Assumes nothing.
 use Prim.Native.Nat.{ℕ, _+_, _*_, _≤_, _<_}
 use mathlib.Core.Path.{_≡_, refl, sym, ap, _∙_}
 use mathlib.Core.Bool.{Bool, true, false, not}
 use mathlib.Core.List.{List, [], _∷_}
 use native.Mathlib.Omega.{arith}
 use lib.ListN.{length}
-use borrow.Author.Tests.{not-true, not-false, leb-true}
+use borrow.Author.Tests.{not-true, not-false}
 use Rattle.octets.specs.Octets.{one, two, number}
 use Rattle.wire.specs.Numbers.{isFaults}
 use Rattle.wire.specs.Fields.{need, laid}
@@ -17,8 +17,7 @@ use Rattle.wire.specs.Writers.{Written}
 use Rattle.wire.proofs.Laid.{certificate-laid, votes-length}
 use Rattle.messages.proofs.Onward.{gives-held}
 use Rattle.text.specs.Pages.{Page, said}
-use Rattle.text.specs.Words.{wordAt, isBytes, bytesOf, isLine}
-use Rattle.text.proofs.WordLaws.{word-short}
+use Rattle.text.specs.Words.{bytesOf}
 use Rattle.papers.specs.Papers.{writtenText}
 
 -- a text made from a value is the one made from what the value is known to be
@@ -31,10 +30,6 @@ said-fault p fault rest tested failed spoken = rw (sym tested ∙ not-true _ fai
 
 pub said-held : {q : Page} {answer test : Bool} (p : Page) (fault rest : List ℕ) → answer ≡ test → not answer ≡ false → q ≡ said p rest → q ≡ said p (need test fault rest)
 said-held p fault rest tested held spoken = rw (sym tested ∙ not-false _ held) spoken
-
--- a word of a line that means bytes has at most two digits for each byte of the array
-pub word-fits : {answer : Bool} {word : List ℕ} (k : ℕ) (line : List ℕ) → isLine line ≡ true → word ≡ wordAt k line → answer ≡ isBytes word → not answer ≡ false → (isBytes word ≡ true) × (length word ≤ 4096)
-word-fits k line short found tested held = (sym tested ∙ not-false _ held, rw found (omega (arith, word-short k line, leb-true (length line) 4096 short)))
 
 -- what is cut out of the array is what the word of the line means
 pub word-read : {word named held given : List ℕ} → word ≡ named → held ≡ bytesOf word → given ≡ held → given ≡ bytesOf named

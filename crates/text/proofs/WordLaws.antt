@@ -1,18 +1,18 @@
 -- What a turn of a loop over the bytes of a word or a line shows, and laws of words: the next one, its length, the bytes that it means. Assumes nothing.
 use Prim.Native.Nat.{ℕ, zero, suc, _+_, _-_, _*_, _/_, _%_, _<_, _≤_}
-use mathlib.Core.Bool.{Bool, true, false}
-use mathlib.Core.Path.{_≡_, refl}
+use mathlib.Core.Bool.{Bool, true, false, not}
+use mathlib.Core.Path.{_≡_, refl, sym, _∙_}
 use mathlib.Core.List.{List, [], _∷_}
 use native.Mathlib.Omega.{arith}
 use native.Mathlib.Numerals.{add-one}
 use lib.ListN.{length, drop, length-take, length-drop, drop-of-length-le}
 use lib.Seq.{drop-cons, take-all}
 use lib.Dec.{ltb}
-use borrow.Author.Tests.{ltb-true, eqb-true, lt-ltb, le-ltb, le-leb, lt-leb, eq-eqb, ne-eqb}
+use borrow.Author.Tests.{not-false, leb-true, ltb-true, eqb-true, lt-ltb, le-ltb, le-leb, lt-leb, eq-eqb, ne-eqb}
 use Rattle.octets.specs.Octets.{number, one, cut, put, bytes}
 use Rattle.octets.proofs.Laws.{put-append, length-put, cut-put}
 use Rattle.wire.proofs.FieldLaws.{both}
-use Rattle.text.specs.Words.{isKind, leading, behindWord, wordAt, worth, noNumber, numberOf, nibble, areDigits, unhexed, isStroke, isBytes, lineEnd}
+use Rattle.text.specs.Words.{isKind, leading, behindWord, wordAt, worth, noNumber, numberOf, nibble, areDigits, unhexed, isStroke, isBytes, isLine, lineEnd}
 
 -- what is left from i on is the byte there, and what is left behind it
 pub next-byte : (s : List ℕ) (i : ℕ) → i < length s → drop i s ≡ number one s i ∷ drop (i + 1) s
@@ -144,3 +144,9 @@ length-unhexed (a ∷ b ∷ rest) = omega (arith, length-unhexed rest)
 -- what was put at the start is read back from there, and lies within
 pub put-read : (s t vs : List ℕ) (n : ℕ) → t ≡ put s 0 vs → n ≡ length vs → n ≤ length s → (t ≡ put s 0 vs) × (cut t 0 n ≡ vs) × (n ≤ length t)
 put-read s t vs n e l h = (e, rw (e, l) (cut-put s 0 vs (omega arith)), rw (e, length-put) h)
+
+-- a word of a line that means bytes may be read: it is no longer than the line
+pub word-readable : {word : List ℕ} {b : Bool} (k : ℕ) (line : List ℕ) → isLine line ≡ true → word ≡ wordAt k line → b ≡ isBytes word → not b ≡ false → (isBytes word ≡ true) × (length word ≤ 2 * 2_048)
+word-readable {b = b} k line short e test passed =
+    let most = leb-true (length line) 4_096 short in
+    (sym test ∙ not-false b passed, rw e (omega (arith, word-short k line)))

@@ -3,7 +3,8 @@ use mathlib.Core.Path.{ap, _∙_}
 use borrow.Author.Needs.{needs}
 use Rattle.text.specs.Words.{isBytes}
 use Rattle.drafts.specs.Drafts.{readText}
-use Rattle.drafts.proofs.ReadingLaws.{said-fault, said-held, word-fits, word-read}
+use Rattle.drafts.proofs.ReadingLaws.{said-fault, said-held, word-read}
+use Rattle.text.proofs.WordLaws.{word-readable}
 use Rattle.drafts.proofs.showing.read_line.Statement.{statement}
 use Rattle.drafts.proofs.showing.read_line.Tie as tie
 
@@ -43,7 +44,7 @@ slice-aggregate-read-bytes : tie.Need-slice-aggregate-read-bytes
 slice-aggregate-read-bytes c = search needs
 
 read-bytes-requires : tie.Need-read-bytes-requires
-read-bytes-requires c κs = word-fits 1 _ (c .before .before .before .before .before .before .before .before .pre) (c .before .before .before .word .ensures) (c .before .before .is-bytes .ensures) (c .before .if2 .left)
+read-bytes-requires c κs = word-readable 1 _ (c .before .before .before .before .before .before .before .before .pre) (c .before .before .before .word .ensures) (c .before .before .is-bytes .ensures) (c .before .if2 .left)
 
 faults-requires : tie.Need-faults-requires
 faults-requires c κs = search needs

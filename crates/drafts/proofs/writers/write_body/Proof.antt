@@ -4,7 +4,8 @@ use borrow.Author.Needs.{needs}
 use Rattle.wire.specs.Writers.{writeBody}
 use Rattle.text.specs.Words.{isBytes}
 use Rattle.drafts.specs.Drafts.{blank, bodyDraft}
-use Rattle.drafts.proofs.ReadingLaws.{said-fault, said-held, word-fits, word-read, said-written}
+use Rattle.drafts.proofs.ReadingLaws.{said-fault, said-held, word-read, said-written}
+use Rattle.text.proofs.WordLaws.{word-readable}
 use Rattle.drafts.proofs.writers.write_body.Statement.{statement}
 use Rattle.drafts.proofs.writers.write_body.Tie as tie
 
@@ -44,7 +45,7 @@ slice-aggregate-read-bytes : tie.Need-slice-aggregate-read-bytes
 slice-aggregate-read-bytes c = search needs
 
 read-bytes-requires : tie.Need-read-bytes-requires
-read-bytes-requires c κs = word-fits 7 _ (c .before .before .before .before .before .before .before .before .pre) (c .before .before .before .word .ensures) (c .before .before .is-bytes .ensures) (c .before .if2 .left)
+read-bytes-requires c κs = word-readable 7 _ (c .before .before .before .before .before .before .before .before .pre) (c .before .before .before .word .ensures) (c .before .before .is-bytes .ensures) (c .before .if2 .left)
 
 slice-aggregate-write-body : tie.Need-slice-aggregate-write-body
 slice-aggregate-write-body c = search needs

@@ -3,7 +3,7 @@ use mathlib.Core.Path.{sym, ap, _∙_}
 use borrow.Author.Tests.{not-true, not-false}
 use borrow.Author.Needs.{needs}
 use Rattle.lines.specs.Calls.{desk, paperLine}
-use Rattle.lines.proofs.LineLaws.{word-readable}
+use Rattle.text.proofs.WordLaws.{word-readable}
 use Rattle.lines.proofs.calls.paper_line.Statement.{statement}
 use Rattle.lines.proofs.calls.paper_line.Tie as tie
 

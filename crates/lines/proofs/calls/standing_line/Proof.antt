@@ -3,7 +3,7 @@ use mathlib.Core.Path.{sym, ap, _∙_}
 use borrow.Author.Tests.{not-true, not-false}
 use borrow.Author.Needs.{needs}
 use Rattle.lines.specs.Calls.{desk, standingLine}
-use Rattle.lines.proofs.LineLaws.{word-readable}
+use Rattle.text.proofs.WordLaws.{word-readable}
 use Rattle.lines.proofs.calls.standing_line.Statement.{statement}
 use Rattle.lines.proofs.calls.standing_line.Tie as tie
 

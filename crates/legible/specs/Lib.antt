@@ -1,0 +1,2 @@
+-- What is printed can be read: in full, and back again.
+pub mod Theorems
