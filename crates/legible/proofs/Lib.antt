@@ -1,1 +1,4 @@
+pub mod Spelling
+pub mod ReadBack
+pub mod Short
 pub mod Legible

@@ -2,7 +2,7 @@
 use Prim.Native.Nat.{ℕ, _+_, _<_, _≤_}
 use mathlib.Core.Bool.{true}
 use mathlib.Core.Path.{_≡_}
-use mathlib.Core.List.{List, _∷_, _++_}
+use mathlib.Core.List.{List}
 use lib.ListN.{length, getD}
 use Rattle.text.specs.Pages.{decimal, hexadecimal}
 use Rattle.text.specs.Words.{numberOf, isBytes, bytesOf}
@@ -15,14 +15,14 @@ abbrev pub Bytes : List ℕ → Type 0
 Bytes bs = (i : ℕ) → getD bs i 0 < 256
 
 -- what is promised of printed text
-pub record Legible : Type 1 where
+pub record Legible : Type 0 where
   -- bytes that were printed in hexadecimal are read back
   pub hexadecimal-back : (bs : List ℕ) → Bytes bs → (isBytes (hexadecimal bs) ≡ true) × (bytesOf (hexadecimal bs) ≡ bs)
   -- a number that was printed is read back, up to eighteen places
   pub decimal-back : (n : ℕ) → n < 1_000_000_000_000_000_000 → numberOf (decimal n) ≡ n
-  -- no answer has more than 255 bytes, whatever the state and the line
+  -- no answer has more than 255 bytes, whatever the bytes of the state and the line are
   pub machine-short : (s line : List ℕ) → length (machineLine s line .text) ≤ 255
-  pub ledger-short : (s line : List ℕ) → length (ledgerLine s line .text) ≤ 255
+  pub ledger-short : (s line : List ℕ) → Bytes s → length (ledgerLine s line .text) ≤ 255
   -- so where the page has room, all of the answer and its line feed stand on it
-  pub whole : (role : Role) (d : Desk) (line : List ℕ) → hasRoom (d .page) ≡ true
+  pub whole : (role : Role) (d : Desk) (line : List ℕ) → Bytes (d .state) → hasRoom (d .page) ≡ true
       → answered role d line .page .length ≡ d .page .length + length (replyOf role (d .state) line .text) + 1

@@ -1,0 +1,1 @@
+// No code: specs/ says how what is printed can be read, and proofs/ proves it.
