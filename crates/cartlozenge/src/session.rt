@@ -23,16 +23,34 @@ struct Held {
     goes_on: bool,
 }
 
-// The state goes to disk if it changed.
+// The state goes to disk if it changed, in the place of what was saved last and of nothing else.
 fn save(path: &[u8], state: &[u8], saved: &mut [u8]) -> bool {
     if octets::same(state, saved) {
         return true;
     }
-    if !files::replace(path, saved, state) {
+    if !files::write_beside(path, state) {
+        return false;
+    }
+    if !is_undisturbed(path, saved) {
+        complain(
+            path,
+            b"another program changed the state or took it; stopped, and nothing was written",
+        );
+        files::drop_beside(path);
+        return false;
+    }
+    if !files::put_in_place(path) {
         return false;
     }
     keep(state, saved);
     true
+}
+
+fn is_undisturbed(path: &[u8], saved: &[u8]) -> bool {
+    if !guard::is_ours(path) {
+        return false;
+    }
+    files::holds(path, saved)
 }
 
 // And then the answers are printed.
@@ -209,6 +227,10 @@ fn converse(role: Role, path: &[u8], state: &mut [u8], saved: &mut [u8]) {
 }
 
 fn open(role: Role, path: &[u8], state: &mut [u8], saved: &mut [u8]) -> bool {
+    if files::is_link(path) {
+        complain(path, b"this is a link; name the state file itself");
+        return false;
+    }
     match files::load(path, state) {
         Loaded::Unopened => {
             fail(path);

@@ -1,9 +1,17 @@
-// State files. A new state is written beside the old one, synced and renamed, and then the folder is synced.
-use crate::complaints::complain;
+// State files. A new state is written beside the old one and synced, then renamed to its place, and then the folder is synced.
 use crate::complaints::fail;
 use text::page::say;
 use text::page::say_signed;
 use text::page::up_to;
+
+// Whether a path is a link: a new state would take the place of the link, and not of what it leads to.
+pub fn is_link(path: &[u8]) -> bool {
+    let mut name = io::buffer();
+    say(&mut name, 0, path);
+    name[4095] = 0;
+    let mut start = [0u8; 1];
+    libc::readlink(&name, &mut start) >= 0
+}
 
 pub enum Loaded {
     Whole,
@@ -31,7 +39,7 @@ pub fn load(path: &[u8], state: &mut [u8]) -> Loaded {
 }
 
 // Whether the file holds these very bytes.
-fn holds(path: &[u8], bytes: &[u8]) -> bool {
+pub fn holds(path: &[u8], bytes: &[u8]) -> bool {
     let mut space = io::large_buffer();
     let file = os::open_read(path);
     if file < 0 {
@@ -115,25 +123,27 @@ fn own_name(path: &[u8], name: &mut [u8]) -> usize {
     name_new(path, up_to(&space, n), name)
 }
 
-// Puts a state in the place of the old one, which the file must still hold.
-pub fn replace(path: &[u8], old: &[u8], state: &[u8]) -> bool {
+// Writes a state beside the one that the file holds.
+pub fn write_beside(path: &[u8], state: &[u8]) -> bool {
     let mut space = io::buffer();
     let n = own_name(path, &mut space);
-    let name = up_to(&space, n);
-    if !make(name, state) {
-        return false;
-    }
-    if !holds(path, old) {
-        complain(
-            path,
-            b"another program changed the state; stopped, and nothing was written",
-        );
-        os::unlink(name);
-        return false;
-    }
-    if os::rename(name, path) < 0 {
+    make(up_to(&space, n), state)
+}
+
+// Takes it away again.
+pub fn drop_beside(path: &[u8]) {
+    let mut space = io::buffer();
+    let n = own_name(path, &mut space);
+    os::unlink(up_to(&space, n));
+}
+
+// Puts it in the place of the old one.
+pub fn put_in_place(path: &[u8]) -> bool {
+    let mut space = io::buffer();
+    let n = own_name(path, &mut space);
+    if os::rename(up_to(&space, n), path) < 0 {
         fail(path);
-        os::unlink(name);
+        drop_beside(path);
         return false;
     }
     sync_name(path)

@@ -1,5 +1,6 @@
 // One program at a time over a state: beside it a lock file says which process has it. A lock that is left over from a process
-// that was killed, or from before the machine was started, is taken away.
+// that was killed, or from before the machine was started, is inherited by one program.
+use crate::complaints::complain;
 use crate::complaints::fail;
 use crate::files::name_new;
 use crate::files::own_digits;
@@ -54,21 +55,41 @@ fn is_held(lock: &[u8]) -> bool {
     runs(words::word(lock, 0))
 }
 
-// Makes the lock file, which fails where there is one.
-fn claim(name: &[u8]) -> bool {
-    let file = os::create(name);
-    if file < 0 {
-        return false;
-    }
-    let mut text = [0u8; 128];
-    let numbered = own_digits(&mut text);
-    let next = say(&mut text, numbered, b" ");
+// What this process writes into a lock: its number, and the text of this start of the machine.
+fn own_mark(out: &mut [u8]) -> usize {
+    let numbered = own_digits(out);
+    let next = say(out, numbered, b" ");
     let mut space = [0u8; 64];
     let n = start_text(&mut space);
-    let end = say(&mut text, next, up_to(&space, n));
-    let is_written = io::write_all(file, up_to(&text, end));
+    say(out, next, up_to(&space, n))
+}
+
+enum Claim {
+    Ours,
+    Theirs,
+    Failed,
+}
+
+// Makes a lock file with our mark, where there is none.
+fn claim(name: &[u8]) -> Claim {
+    let file = os::create(name);
+    if file < 0 {
+        if os::errno() == libc::EEXIST {
+            return Claim::Theirs;
+        }
+        fail(name);
+        return Claim::Failed;
+    }
+    let mut mark = [0u8; 128];
+    let end = own_mark(&mut mark);
+    if !io::write_all(file, up_to(&mark, end)) {
+        fail(name);
+        libc::close(file);
+        os::unlink(name);
+        return Claim::Failed;
+    }
     libc::close(file);
-    is_written
+    Claim::Ours
 }
 
 fn is_empty(name: &[u8]) -> bool {
@@ -88,54 +109,116 @@ fn await_text(name: &[u8]) {
     }
 }
 
-// Takes away the lock of a process that runs no more, and what it may have left half-written.
-fn clear(path: &[u8], name: &[u8], lock: &[u8]) {
-    let mut space = io::buffer();
-    let n = name_new(path, words::word(lock, 0), &mut space);
-    os::unlink(up_to(&space, n));
-    os::unlink(name);
-}
-
-fn refuse(path: &[u8], name: &[u8], lock: &[u8]) {
+fn refuse(path: &[u8], name: &[u8], mark: &[u8]) {
     io::write_all(STDERR_FILENO, b"cartlozenge: ");
     io::write_all(STDERR_FILENO, path);
     io::write_all(STDERR_FILENO, b": in use by process ");
-    io::write_all(STDERR_FILENO, words::word(lock, 0));
+    io::write_all(STDERR_FILENO, words::word(mark, 0));
     io::write_all(STDERR_FILENO, b"; if that is no cartlozenge, remove ");
     io::write_all(STDERR_FILENO, name);
     io::write_all(STDERR_FILENO, b"\n");
+}
+
+// Where the heir of a process that runs no more makes its claim: there can be one such file only, and so one heir.
+fn heir_name(path: &[u8], digits: &[u8], name: &mut [u8]) -> usize {
+    let ended = say(name, 0, path);
+    let dotted = say(name, ended, b".");
+    let numbered = say(name, dotted, digits);
+    say(name, numbered, b".lock")
+}
+
+// Takes away what a process that runs no more may have left half-written.
+fn clear(path: &[u8], digits: &[u8]) {
+    let mut space = io::buffer();
+    let n = name_new(path, digits, &mut space);
+    os::unlink(up_to(&space, n));
+}
+
+// Whether a lock says what it said.
+fn says(name: &[u8], mark: &[u8]) -> bool {
+    let mut text = [0u8; 128];
+    let end = read_text(name, &mut text);
+    octets::same(up_to(&text, end), mark)
+}
+
+// Puts an heir's claim in the place of the lock, unless another heir was faster.
+fn succeed(path: &[u8], lock: &[u8], seen: &[u8], claimed: &[u8]) -> bool {
+    if !says(lock, seen) {
+        complain(path, b"another program is just taking it over");
+        os::unlink(claimed);
+        return false;
+    }
+    if os::rename(claimed, lock) < 0 {
+        fail(lock);
+        os::unlink(claimed);
+        return false;
+    }
+    true
+}
+
+// Takes over from the process that left a mark, if that runs no more. `seen` is what the lock itself says. Where an heir was killed
+// before it had the lock, its own heir goes on from its mark.
+fn inherit(path: &[u8], lock: &[u8], seen: &[u8], mark: &[u8], turns: u64) -> bool {
+    if is_held(mark) {
+        refuse(path, lock, mark);
+        return false;
+    }
+    if turns == 0 {
+        complain(lock, b"too many locks are left over; remove them");
+        return false;
+    }
+    let digits = words::word(mark, 0);
+    clear(path, digits);
+    let mut space = io::buffer();
+    let n = heir_name(path, digits, &mut space);
+    let heir = up_to(&space, n);
+    match claim(heir) {
+        Claim::Failed => false,
+        Claim::Ours => succeed(path, lock, seen, heir),
+        Claim::Theirs => {
+            await_text(heir);
+            let mut text = [0u8; 128];
+            let end = read_text(heir, &mut text);
+            if !inherit(path, lock, seen, up_to(&text, end), turns - 1) {
+                return false;
+            }
+            os::unlink(heir);
+            true
+        }
+    }
 }
 
 // Takes the state for this process, or says which process has it.
 pub fn take(path: &[u8]) -> bool {
     let mut space = io::buffer();
     let n = lock_name(path, &mut space);
-    let name = up_to(&space, n);
-    if claim(name) {
-        return true;
+    let lock = up_to(&space, n);
+    match claim(lock) {
+        Claim::Failed => false,
+        Claim::Ours => true,
+        Claim::Theirs => {
+            await_text(lock);
+            let mut text = [0u8; 128];
+            let end = read_text(lock, &mut text);
+            let seen = up_to(&text, end);
+            inherit(path, lock, seen, seen, 8)
+        }
     }
-    if os::errno() != libc::EEXIST {
-        fail(name);
-        return false;
-    }
-    await_text(name);
-    let mut text = [0u8; 128];
-    let end = read_text(name, &mut text);
-    let lock = up_to(&text, end);
-    if is_held(lock) {
-        refuse(path, name, lock);
-        return false;
-    }
-    clear(path, name, lock);
-    if claim(name) {
-        return true;
-    }
-    fail(name);
-    false
+}
+
+// Whether the state is still ours.
+pub fn is_ours(path: &[u8]) -> bool {
+    let mut space = io::buffer();
+    let n = lock_name(path, &mut space);
+    let mut mark = [0u8; 128];
+    let end = own_mark(&mut mark);
+    says(up_to(&space, n), up_to(&mark, end))
 }
 
 pub fn give_back(path: &[u8]) {
-    let mut space = io::buffer();
-    let n = lock_name(path, &mut space);
-    os::unlink(up_to(&space, n));
+    if is_ours(path) {
+        let mut space = io::buffer();
+        let n = lock_name(path, &mut space);
+        os::unlink(up_to(&space, n));
+    }
 }
