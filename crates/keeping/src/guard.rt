@@ -64,21 +64,21 @@ fn own_mark(out: &mut [u8]) -> usize {
     say(out, next, up_to(&space, n))
 }
 
-enum Claim {
+enum Claimed {
     Ours,
     Theirs,
     Failed,
 }
 
 // Makes a lock file with our mark, where there is none.
-fn claim(name: &[u8]) -> Claim {
+fn claim(name: &[u8]) -> Claimed {
     let file = os::create(name);
     if file < 0 {
         if os::errno() == libc::EEXIST {
-            return Claim::Theirs;
+            return Claimed::Theirs;
         }
         fail(name);
-        return Claim::Failed;
+        return Claimed::Failed;
     }
     let mut mark = [0u8; 128];
     let end = own_mark(&mut mark);
@@ -86,10 +86,10 @@ fn claim(name: &[u8]) -> Claim {
         fail(name);
         libc::close(file);
         os::unlink(name);
-        return Claim::Failed;
+        return Claimed::Failed;
     }
     libc::close(file);
-    Claim::Ours
+    Claimed::Ours
 }
 
 fn is_empty(name: &[u8]) -> bool {
@@ -142,30 +142,31 @@ fn says(name: &[u8], mark: &[u8]) -> bool {
 }
 
 // Puts an heir's claim in the place of the lock, unless another heir was faster.
-fn succeed(path: &[u8], lock: &[u8], seen: &[u8], claimed: &[u8]) -> bool {
+fn succeed(path: &[u8], lock: &[u8], seen: &[u8], heir: &[u8]) -> bool {
     if !says(lock, seen) {
         complain(path, b"another program is just taking it over");
-        os::unlink(claimed);
+        os::unlink(heir);
         return false;
     }
-    if os::rename(claimed, lock) < 0 {
+    if os::rename(heir, lock) < 0 {
         fail(lock);
-        os::unlink(claimed);
+        os::unlink(heir);
         return false;
     }
     true
 }
 
-// Takes over from the process that left a mark, if that runs no more. `seen` is what the lock itself says. Where an heir was killed
-// before it had the lock, its own heir goes on from its mark.
-fn inherit(path: &[u8], lock: &[u8], seen: &[u8], mark: &[u8], turns: u64) -> bool {
+enum Heir {
+    Taken,
+    Refused,
+    Left,
+}
+
+// Makes our claim as heir of the process that left a mark, if that runs no more. `seen` is what the lock itself says.
+fn claim_after(path: &[u8], lock: &[u8], seen: &[u8], mark: &[u8]) -> Heir {
     if is_held(mark) {
         refuse(path, lock, mark);
-        return false;
-    }
-    if turns == 0 {
-        complain(lock, b"too many locks are left over; remove them");
-        return false;
+        return Heir::Refused;
     }
     let digits = words::word(mark, 0);
     clear(path, digits);
@@ -173,16 +174,48 @@ fn inherit(path: &[u8], lock: &[u8], seen: &[u8], mark: &[u8], turns: u64) -> bo
     let n = heir_name(path, digits, &mut space);
     let heir = up_to(&space, n);
     match claim(heir) {
-        Claim::Failed => false,
-        Claim::Ours => succeed(path, lock, seen, heir),
-        Claim::Theirs => {
-            await_text(heir);
+        Claimed::Failed => Heir::Refused,
+        Claimed::Theirs => Heir::Left,
+        Claimed::Ours => {
+            if !succeed(path, lock, seen, heir) {
+                return Heir::Refused;
+            }
+            Heir::Taken
+        }
+    }
+}
+
+// The mark of the heir of the process that left a mark.
+fn heir_mark(path: &[u8], mark: &[u8], out: &mut [u8]) -> usize {
+    let mut space = io::buffer();
+    let n = heir_name(path, words::word(mark, 0), &mut space);
+    let heir = up_to(&space, n);
+    await_text(heir);
+    read_text(heir, out)
+}
+
+fn drop_heir(path: &[u8], mark: &[u8]) {
+    let mut space = io::buffer();
+    let n = heir_name(path, words::word(mark, 0), &mut space);
+    os::unlink(up_to(&space, n));
+}
+
+// Takes over from the process that left a mark. Where its heir was killed before it had the lock, that one's heir goes on.
+fn inherit(path: &[u8], lock: &[u8], seen: &[u8], mark: &[u8], turns: u64) -> bool {
+    match claim_after(path, lock, seen, mark) {
+        Heir::Taken => true,
+        Heir::Refused => false,
+        Heir::Left => {
+            if turns == 0 {
+                complain(lock, b"too many locks are left over; remove them");
+                return false;
+            }
             let mut text = [0u8; 128];
-            let end = read_text(heir, &mut text);
+            let end = heir_mark(path, mark, &mut text);
             if !inherit(path, lock, seen, up_to(&text, end), turns - 1) {
                 return false;
             }
-            os::unlink(heir);
+            drop_heir(path, mark);
             true
         }
     }
@@ -194,9 +227,9 @@ pub fn take(path: &[u8]) -> bool {
     let n = lock_name(path, &mut space);
     let lock = up_to(&space, n);
     match claim(lock) {
-        Claim::Failed => false,
-        Claim::Ours => true,
-        Claim::Theirs => {
+        Claimed::Failed => false,
+        Claimed::Ours => true,
+        Claimed::Theirs => {
             await_text(lock);
             let mut text = [0u8; 128];
             let end = read_text(lock, &mut text);
