@@ -108,6 +108,10 @@ impl Shared<'_> {
 
     /// A program that is started now must refuse at once, and name the process.
     fn refuses(&self, desk: &Desk, process: u32) -> Tried<()> {
+        self.refuses_beside(desk, process, &["state", "state.lock"])
+    }
+
+    fn refuses_beside(&self, desk: &Desk, process: u32, names: &[&str]) -> Tried<()> {
         let begin = Instant::now();
         let input = joined(&[changing_line(desk)]);
         let ended = self
@@ -119,7 +123,7 @@ impl Shared<'_> {
             return Err(format!("it took {:?} to refuse", begin.elapsed()));
         }
         self.place.check_state(&desk.state)?;
-        self.place.check_names(&["state", "state.lock"])
+        self.place.check_names(names)
     }
 
     fn second(&self) -> Tried<()> {
@@ -170,7 +174,29 @@ impl Shared<'_> {
         if kept != text.as_bytes() {
             return Err("the lock of a process that runs was changed".to_string());
         }
-        Ok(left_over.len() + 1)
+        Ok(left_over.len() + 1 + self.heirs(&boot)?)
+    }
+
+    /// A process that was killed while it took over a lock of another that was. Answers how many.
+    fn heirs(&self, boot: &str) -> Tried<usize> {
+        let dead = dead_process()?;
+        let lock = format!("{dead} {boot}");
+        let name = format!("state.{dead}.lock");
+        let heir = self.place.folder.join(&name);
+        let marks = [format!("{} {boot}", dead_process()?), String::new()];
+        for mark in &marks {
+            let mut desk = self.desk()?;
+            place::write(&self.place.lock(), lock.as_bytes())?;
+            place::write(&heir, mark.as_bytes())?;
+            self.serves(&mut desk)
+                .map_err(|reason| format!("an heir that left {mark:?}: {reason}"))?;
+        }
+        let own = process::id();
+        let desk = self.desk()?;
+        place::write(&self.place.lock(), lock.as_bytes())?;
+        place::write(&heir, format!("{own} {boot}").as_bytes())?;
+        self.refuses_beside(&desk, own, &["state", &name, "state.lock"])?;
+        Ok(marks.len() + 1)
     }
 
     /// The lock is taken away, and what its process had written beside the state.
