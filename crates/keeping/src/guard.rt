@@ -30,13 +30,7 @@ fn start_text(out: &mut [u8]) -> usize {
     read_text(b"/proc/sys/kernel/random/boot_id", out)
 }
 
-// Whether another process of this number runs.
 fn runs(digits: &[u8]) -> bool {
-    let mut own = [0u8; 32];
-    let n = own_digits(&mut own);
-    if octets::same(digits, up_to(&own, n)) {
-        return false;
-    }
     let number = words::number(digits);
     if number > 2147483647 {
         return false;
@@ -64,25 +58,45 @@ fn own_mark(out: &mut [u8]) -> usize {
     say(out, next, up_to(&space, n))
 }
 
+// Whether a lock says this.
+fn says(name: &[u8], mark: &[u8]) -> bool {
+    let mut text = [0u8; 128];
+    let end = read_text(name, &mut text);
+    octets::same(up_to(&text, end), mark)
+}
+
+fn is_own(name: &[u8]) -> bool {
+    let mut mark = [0u8; 128];
+    let end = own_mark(&mut mark);
+    says(name, up_to(&mark, end))
+}
+
+fn write_mark(file: i32) -> bool {
+    let mut mark = [0u8; 128];
+    let end = own_mark(&mut mark);
+    io::write_all(file, up_to(&mark, end))
+}
+
 enum Claimed {
     Ours,
     Theirs,
     Failed,
 }
 
-// Makes a lock file with our mark, where there is none.
+// Makes a lock file with our mark, where there is none. One with our very mark was left by a process that had our number before us.
 fn claim(name: &[u8]) -> Claimed {
     let file = os::create(name);
     if file < 0 {
-        if os::errno() == libc::EEXIST {
-            return Claimed::Theirs;
+        if os::errno() != libc::EEXIST {
+            fail(name);
+            return Claimed::Failed;
         }
-        fail(name);
-        return Claimed::Failed;
+        if is_own(name) {
+            return Claimed::Ours;
+        }
+        return Claimed::Theirs;
     }
-    let mut mark = [0u8; 128];
-    let end = own_mark(&mut mark);
-    if !io::write_all(file, up_to(&mark, end)) {
+    if !write_mark(file) {
         fail(name);
         libc::close(file);
         os::unlink(name);
@@ -132,13 +146,6 @@ fn clear(path: &[u8], digits: &[u8]) {
     let mut space = io::buffer();
     let n = name_new(path, digits, &mut space);
     os::unlink(up_to(&space, n));
-}
-
-// Whether a lock says what it said.
-fn says(name: &[u8], mark: &[u8]) -> bool {
-    let mut text = [0u8; 128];
-    let end = read_text(name, &mut text);
-    octets::same(up_to(&text, end), mark)
 }
 
 // Puts an heir's claim in the place of the lock, unless another heir was faster.
@@ -221,8 +228,15 @@ fn inherit(path: &[u8], lock: &[u8], seen: &[u8], mark: &[u8], turns: u64) -> bo
     }
 }
 
+fn clear_own(path: &[u8]) {
+    let mut space = [0u8; 32];
+    let n = own_digits(&mut space);
+    clear(path, up_to(&space, n));
+}
+
 // Takes the state for this process, or says which process has it.
 pub fn take(path: &[u8]) -> bool {
+    clear_own(path);
     let mut space = io::buffer();
     let n = lock_name(path, &mut space);
     let lock = up_to(&space, n);
@@ -243,9 +257,7 @@ pub fn take(path: &[u8]) -> bool {
 pub fn is_ours(path: &[u8]) -> bool {
     let mut space = io::buffer();
     let n = lock_name(path, &mut space);
-    let mut mark = [0u8; 128];
-    let end = own_mark(&mut mark);
-    says(up_to(&space, n), up_to(&mark, end))
+    is_own(up_to(&space, n))
 }
 
 pub fn give_back(path: &[u8]) {
