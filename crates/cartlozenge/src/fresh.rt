@@ -48,7 +48,7 @@ fn keep_made(answer: FreshAnswer, i: usize, state: &[u8]) {
 }
 
 fn make_machine() {
-    let mut state = [0u8; 4616];
+    let mut state = [0u8; records::state::LENGTH];
     let answer = machine::make_fresh(
         &mut state,
         Committee::of(number_at(3)),
@@ -58,7 +58,7 @@ fn make_machine() {
 }
 
 fn make_ledger() {
-    let mut state = [0u8; 32784];
+    let mut state = [0u8; ledger::state::LENGTH];
     let answer = ledger::make_fresh(&mut state, Committee::of(number_at(3)));
     keep_made(answer, 4, &state);
 }

@@ -24,6 +24,10 @@ fn join_arguments(line: &mut [u8]) -> usize {
 fn join_argument(line: &mut [u8], at: usize, i: usize) -> usize {
     let mut word = io::large_buffer();
     let n = os::arg(i, &mut word);
+    if os::errno() != 0 {
+        // One that is longer than any line: its first bytes make the line too long.
+        return say(line, at, &word);
+    }
     let next = say(line, at, &word[..n]);
     say(line, next, b" ")
 }
@@ -38,14 +42,14 @@ fn draft() {
 }
 
 fn serve_machine(path: &[u8]) {
-    let mut state = [0u8; 4616];
-    let mut saved = [0u8; 4616];
+    let mut state = [0u8; records::state::LENGTH];
+    let mut saved = [0u8; records::state::LENGTH];
     session::run(Role::Machine, path, &mut state, &mut saved);
 }
 
 fn serve_ledger(path: &[u8]) {
-    let mut state = [0u8; 32784];
-    let mut saved = [0u8; 32784];
+    let mut state = [0u8; ledger::state::LENGTH];
+    let mut saved = [0u8; ledger::state::LENGTH];
     session::run(Role::Ledger, path, &mut state, &mut saved);
 }
 

@@ -9,6 +9,7 @@ use libc::STDIN_FILENO;
 use libc::STDOUT_FILENO;
 use lines::files::is_file;
 use lines::serving;
+use lines::serving::Next;
 use lines::serving::Role;
 use refusals::Fault;
 use refusals::unread;
@@ -102,14 +103,32 @@ fn refuse(fault: Fault) {
     io::write_all(STDOUT_FILENO, up_to(&out, last));
 }
 
-// What is held begins with the rest of a line that was refused; that rest ends at `end`.
-fn skip(input: &mut [u8], held: Held, end: usize) -> Held {
-    let filled = words::move_front(input, end, held.filled);
+// A line that was too long: what has arrived of it is dropped.
+fn pass_over() -> Held {
+    Held {
+        filled: 0,
+        skips: true,
+        goes_on: true,
+    }
+}
+
+// Its end has arrived: what stands behind it is held.
+fn skip(input: &mut [u8], held: Held) -> Held {
+    let end = words::line_end(up_to(input, held.filled));
+    let filled = behind(input, end, held.filled);
     Held {
         filled,
         skips: false,
         goes_on: true,
     }
+}
+
+// Holds what stands behind the line feed at `end`.
+fn behind(input: &mut [u8], end: usize, filled: usize) -> usize {
+    if filled <= end {
+        return 0;
+    }
+    words::move_front(input, end + 1, filled)
 }
 
 // The input has ended. A line without an end may be half of another.
@@ -144,7 +163,8 @@ fn is_passing() -> bool {
 fn read_more(input: &mut [u8], held: Held) -> Held {
     let filled = held.filled;
     if filled >= input.len() {
-        return finish(held);
+        refuse(Fault::TooLong);
+        return pass_over();
     }
     let space = &mut input[filled..];
     let got = libc::read(STDIN_FILENO, space);
@@ -166,29 +186,6 @@ fn read_more(input: &mut [u8], held: Held) -> Held {
     }
 }
 
-// No whole line is held. What cannot become one any more is refused or, if that was done, dropped.
-fn await_line(input: &mut [u8], held: Held) -> Held {
-    if held.skips {
-        return read_more(
-            input,
-            Held {
-                filled: 0,
-                skips: true,
-                goes_on: true,
-            },
-        );
-    }
-    if held.filled > words::LINE {
-        refuse(Fault::TooLong);
-        return Held {
-            filled: 0,
-            skips: true,
-            goes_on: true,
-        };
-    }
-    read_more(input, held)
-}
-
 fn turn(
     role: Role,
     path: &[u8],
@@ -197,14 +194,16 @@ fn turn(
     input: &mut [u8],
     held: Held,
 ) -> Held {
-    let end = words::line_end(up_to(input, held.filled));
-    if end >= held.filled {
-        return await_line(input, held);
+    match serving::next_step(held.skips, up_to(input, held.filled)) {
+        Next::Answer => answer_some(role, path, state, saved, input, held),
+        Next::Await => read_more(input, held),
+        Next::Refuse => {
+            refuse(Fault::TooLong);
+            pass_over()
+        }
+        Next::Skip => skip(input, held),
+        Next::Drop => read_more(input, pass_over()),
     }
-    if held.skips {
-        return skip(input, held, end + 1);
-    }
-    answer_some(role, path, state, saved, input, held)
 }
 
 // A proved loop has to end, and nothing says that the input does. So turns are counted down, from a number that no run uses up.

@@ -109,18 +109,18 @@ pub(crate) fn own_digits(out: &mut [u8]) -> usize {
     say_signed(out, 0, libc::getpid() as i64)
 }
 
-// The name beside a path under which a process writes.
-pub(crate) fn name_new(path: &[u8], digits: &[u8], name: &mut [u8]) -> usize {
+// The name beside a path of what belongs to a process: PATH.DIGITS and an ending.
+pub(crate) fn name_beside(path: &[u8], digits: &[u8], ending: &[u8], name: &mut [u8]) -> usize {
     let ended = say(name, 0, path);
     let dotted = say(name, ended, b".");
     let numbered = say(name, dotted, digits);
-    say(name, numbered, b".new")
+    say(name, numbered, ending)
 }
 
 fn own_name(path: &[u8], name: &mut [u8]) -> usize {
     let mut space = [0u8; 32];
     let n = own_digits(&mut space);
-    name_new(path, up_to(&space, n), name)
+    name_beside(path, up_to(&space, n), b".new", name)
 }
 
 // Writes a state beside the one that the file holds.

@@ -2,7 +2,7 @@
 // that was killed, or from before the machine was started, is inherited by one program.
 use crate::complaints::complain;
 use crate::complaints::fail;
-use crate::files::name_new;
+use crate::files::name_beside;
 use crate::files::own_digits;
 use libc::STDERR_FILENO;
 use text::page::say;
@@ -135,16 +135,13 @@ fn refuse(path: &[u8], name: &[u8], mark: &[u8]) {
 
 // Where the heir of a process that runs no more makes its claim: there can be one such file only, and so one heir.
 fn heir_name(path: &[u8], digits: &[u8], name: &mut [u8]) -> usize {
-    let ended = say(name, 0, path);
-    let dotted = say(name, ended, b".");
-    let numbered = say(name, dotted, digits);
-    say(name, numbered, b".lock")
+    name_beside(path, digits, b".lock", name)
 }
 
 // Takes away what a process that runs no more may have left half-written.
 fn clear(path: &[u8], digits: &[u8]) {
     let mut space = io::buffer();
-    let n = name_new(path, digits, &mut space);
+    let n = name_beside(path, digits, b".new", &mut space);
     os::unlink(up_to(&space, n));
 }
 

@@ -15,7 +15,7 @@ pub(crate) const LOG: usize = 512;
 pub(crate) const MOST_POT: u64 = 1_000_000_000_000_000;
 
 // Whether length and header are as they should be.
-pub(crate) fn formed(s: &[u8]) -> bool
+pub fn formed(s: &[u8]) -> bool
     ensures { λ r. ⌜ r ≡ ledger.isState base (now (s .entry)) ⌝ }
 {
     if s.len() != LENGTH {

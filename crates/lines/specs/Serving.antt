@@ -1,14 +1,15 @@
 -- Lines that arrive together: each is answered in its turn.
 use Prim.Native.Nat.{ℕ, zero, suc, _+_}
-use mathlib.Core.Bool.{Bool}
+use mathlib.Core.Bool.{Bool, cond}
 use mathlib.Core.List.{List, _++_}
 use lib.ListN.{length, take, drop}
 use lib.Dec.{leb, ltb}
 use Rattle.wire.specs.Fields.{need}
 use Rattle.text.specs.Ascii.{ascii}
 use Rattle.text.specs.Pages.{Page, said}
-use Rattle.text.specs.Words.{lineEnd}
+use Rattle.text.specs.Words.{isLine, lineEnd}
 use Rattle.lines.specs.Calls.{Reply, machineLine, ledgerLine, Desk, desk}
+use Rattle.lines.specs.declared.serving.Next.{Next}
 use Rattle.lines.specs.declared.serving.Role.{Role}
 
 -- who answers
@@ -33,6 +34,18 @@ pub record Served : Type 0 where
 abbrev pub atDesk : ℕ → Desk → Served
 atDesk taken d = record { taken = taken; desk = d }
 
+-- whether there is a whole line
+abbrev pub hasLine : List ℕ → Bool
+hasLine input = ltb (lineEnd input) (length input)
+
+-- what is to be done with the bytes that have arrived: answer their lines, or wait for more; where they are more than a line may have,
+-- refuse them, and then `skips` says that all up to the end of that line is passed over
+unfoldable pub nextOf : Bool → List ℕ → Next
+nextOf skips input =
+    cond (hasLine input) (cond skips Next.Skip Next.Answer)
+    (cond skips Next.Drop
+    (need (isLine input) Next.Refuse Next.Await))
+
 -- the first line of what is left of an input
 abbrev pub nextLine : List ℕ → ℕ → List ℕ
 nextLine input from = take (lineEnd (drop from input)) (drop from input)
@@ -43,7 +56,7 @@ unfoldable pub servedFrom : ℕ → Role → List ℕ → ℕ → Desk → Serve
 servedFrom zero role input from d = atDesk from d
 servedFrom (suc n) role input from d =
     need (hasRoom (d .page)) (atDesk from d)
-    (need (ltb (lineEnd (drop from input)) (length (drop from input))) (atDesk from d)
+    (need (hasLine (drop from input)) (atDesk from d)
     (servedFrom n role input (from + lineEnd (drop from input) + 1) (answered role d (nextLine input from))))
 
 -- no input has more lines than bytes

@@ -4,7 +4,6 @@ ghost use Prim.Native.Nat.{_≤_};
 ghost use lib.ListN.{length};
 ghost use Rattle.lines.specs.Files as files;
 use crate::serving::Role;
-use ledger::answers::PotAnswer;
 use records::record::Record;
 use records::state;
 use wire::kinds::Account;
@@ -23,15 +22,6 @@ fn are_records(s: &[u8]) -> bool
     true
 }
 
-fn is_ledger(s: &[u8]) -> bool
-    ensures { λ r. ⌜ r ≡ files.isFile Role.Ledger (now (s .entry)) ⌝ }
-{
-    match ledger::read_pot(s) {
-        PotAnswer::Holds(_) => true,
-        PotAnswer::Refused(_) => false,
-    }
-}
-
 pub fn is_file(role: Role, s: &[u8]) -> bool
     ensures { λ r. ⌜ r ≡ files.isFile role (now (s .entry)) ⌝ }
 {
@@ -42,6 +32,6 @@ pub fn is_file(role: Role, s: &[u8]) -> bool
             }
             are_records(s)
         }
-        Role::Ledger => is_ledger(s),
+        Role::Ledger => ledger::state::formed(s),
     }
 }

@@ -15,6 +15,34 @@ pub enum Role {
     Ledger,
 }
 
+// What is to be done with the bytes that have arrived.
+pub enum Next {
+    Answer,
+    Await,
+    Refuse,
+    Skip,
+    Drop,
+}
+
+// `skips` says that they go on with a line that was refused as too long.
+pub fn next_step(skips: bool, input: &[u8]) -> Next
+    ensures { λ r. ⌜ r ≡ serving.nextOf skips (now (input .entry)) ⌝ }
+{
+    if words::line_end(input) < input.len() {
+        if skips {
+            return Next::Skip;
+        }
+        return Next::Answer;
+    }
+    if skips {
+        return Next::Drop;
+    }
+    if input.len() > words::LINE {
+        return Next::Refuse;
+    }
+    Next::Await
+}
+
 // How much of the input was taken, and how many bytes of the page are text then.
 pub struct Progress {
     pub taken: usize,

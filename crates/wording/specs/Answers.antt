@@ -22,7 +22,7 @@ orderText said = answerText said (cond (eqb (value said 0) 0) (ascii "vote, new"
 unfoldable pub certificateText : Said → List ℕ
 certificateText said =
     answerText said
-    (cond (eqb (value said 0) 0) (ascii "confirmed by ") (ascii "already confirmed, this time by ") ++ machinesText (value said 1))
+    (cond (eqb (value said 0) 0) (ascii "confirmed by ") (ascii "already: this sequence was confirmed before; votes of ") ++ machinesText (value said 1))
 
 -- the answer on a funding order
 unfoldable pub fundingText : Said → List ℕ

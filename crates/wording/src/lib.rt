@@ -53,7 +53,11 @@ pub fn certificate(out: &mut [u8], at: usize, answer: ConfirmAnswer) -> usize
             machines(out, next, votes)
         }
         ConfirmAnswer::Already(votes) => {
-            let next = say(out, at, b"already confirmed, this time by ");
+            let next = say(
+                out,
+                at,
+                b"already: this sequence was confirmed before; votes of ",
+            );
             machines(out, next, votes)
         }
         ConfirmAnswer::Refused(refusal) => refused(out, at, refusal),

@@ -72,7 +72,7 @@ pub fn confirmation(confirmation: Confirmation) -> String {
     match confirmation {
         Confirmation::Confirmed(votes) => format!("confirmed by {}", machines(votes)),
         Confirmation::Already(votes) => {
-            format!("already confirmed, this time by {}", machines(votes))
+            format!("already: this sequence was confirmed before; votes of {}", machines(votes))
         }
     }
 }

@@ -23,15 +23,16 @@ are-records-requires c κs = state-length _ (sym (c .before .formed .ensures) �
 enum-told-2 : tie.Need-enum-told-2
 enum-told-2 c = search needs
 
-is-ledger-requires : tie.Need-is-ledger-requires
-is-ledger-requires c κs = search needs
+formed-requires-2 : tie.Need-formed-requires-2
+formed-requires-2 c κs = search needs
 
 returns-2 : tie.Need-returns-2
 unfolding isFile
 returns-2 c = simp (c .before .before .before .enum-told .given .1, ← c .before .before .formed .ensures, not-false (c .before .before .formed .result) (c .before .if1 .left)) (c .are-records .ensures)
 
 returns-3 : tie.Need-returns-3
-returns-3 c = rw (c .before .enum-told2 .given .1) (c .is-ledger .ensures)
+unfolding isFile
+returns-3 c = rw (c .before .enum-told2 .given .1) (c .formed2 .ensures)
 
 pub is-file-spec : {M : Type 1} → statement M
 is-file-spec =
@@ -42,6 +43,6 @@ is-file-spec =
     returns
     are-records-requires
     enum-told-2
-    is-ledger-requires
+    formed-requires-2
     returns-2
     returns-3)
