@@ -35,7 +35,7 @@ fn save(path: &[u8], state: &[u8], saved: &mut [u8]) -> bool {
     if !is_undisturbed(path, saved) {
         complain(
             path,
-            b"another program changed the state or took it; stopped, and nothing was written",
+            b"another program changed the state or took it, or it cannot be read; stopped, and nothing was written",
         );
         files::drop_beside(path);
         return false;
@@ -238,11 +238,14 @@ fn open(role: Role, path: &[u8], state: &mut [u8], saved: &mut [u8]) -> bool {
         Loaded::Unlike => {
             complain(
                 path,
-                b"refused 16: the file has not the length of such a state; it is left alone",
+                b"refused 16: the file cannot be read whole or has not the length of such a state; it is left alone",
             );
             return false;
         }
         Loaded::Whole => {}
+    }
+    if !files::sync_name(path) {
+        return false;
     }
     if !is_file(role, state) {
         complain(

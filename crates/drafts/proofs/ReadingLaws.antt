@@ -1,4 +1,4 @@
--- Laws of what is read: what a test of the code says of what is printed; a word that means bytes goes from its array to a writer; where a certificate that was read has its votes. Assumes nothing.
+-- Laws of what is read: what a test of the code says of what is printed; a word that means bytes goes from its array to a writer; where a certificate that was read has its votes and its note. Assumes nothing.
 use Prim.Native.Nat.{ℕ, _+_, _*_, _≤_, _<_}
 use mathlib.Core.Path.{_≡_, refl, sym, ap, _∙_}
 use mathlib.Core.Bool.{Bool, true, false, not}
@@ -6,13 +6,13 @@ use mathlib.Core.List.{List, [], _∷_}
 use native.Mathlib.Omega.{arith}
 use lib.ListN.{length}
 use borrow.Author.Tests.{not-true, not-false}
-use Rattle.octets.specs.Octets.{one, two, number}
+use Rattle.octets.specs.Octets.{one, two, number, cut}
 use Rattle.wire.specs.Numbers.{isFaults}
 use Rattle.wire.specs.Fields.{need, laid}
-use Rattle.wire.specs.Messages.{certificateFields}
+use Rattle.wire.specs.Messages.{inside, certificateFields}
 use Rattle.wire.specs.Votes.{votes}
 use Rattle.wire.specs.Refusals.{gives}
-use Rattle.wire.specs.Readers.{readCertificateOf, readCertificate}
+use Rattle.wire.specs.Readers.{BodyShown, readBody, readCertificateOf, readCertificate}
 use Rattle.wire.specs.Writers.{Written}
 use Rattle.wire.proofs.Laid.{certificate-laid, votes-length}
 use Rattle.messages.proofs.Onward.{gives-held}
@@ -33,7 +33,7 @@ said-held p fault rest tested held spoken = rw (sym tested ∙ not-false _ held)
 
 -- what is cut out of the array is what the word of the line means
 pub word-read : {word named held given : List ℕ} → word ≡ named → held ≡ bytesOf word → given ≡ held → given ≡ bytesOf named
-word-read found meant cut = cut ∙ meant ∙ ap bytesOf found
+word-read found meant taken = taken ∙ meant ∙ ap bytesOf found
 
 -- a writer that was given what the words of the line mean wrote what the definition says
 pub said-written : {A : Type 0} {q : Page} {w : Written} {write asked : A → Written} {given meant : A} (p : Page) → write ≡ asked → given ≡ meant → w ≡ write given → q ≡ said p (writtenText w) → q ≡ said p (writtenText (asked meant))
@@ -58,3 +58,7 @@ certificate-shown f m e =
     let found = certificate-laid m (gives-held (laid m certificateFields) 1 _ given .0) in
     let end : length m ≡ number two m 1 + 3 + 68 * votes m = votes-length (votes m) m (number two m 1 + 3) (found .run) in
     record { sized = omega arith; body = omega arith; room = omega arith }
+
+-- the note of the body that was cut out of a message is that of the body inside it
+pub note-enclosed : {shown : BodyShown} {given : List ℕ} {size : ℕ} (m : List ℕ) → shown ≡ readBody given → given ≡ cut m 3 size → size ≡ number two m 1 → shown .note ≡ readBody (inside m) .note
+note-enclosed m told taken sized = (λ i. told i .note) ∙ (λ i. readBody (taken i) .note) ∙ (λ i. readBody (cut m 3 (sized i)) .note)

@@ -5,7 +5,9 @@ use mathlib.Core.List.{List}
 use lib.ListN.{replicate}
 use lib.Dec.{eqb}
 use Rattle.octets.specs.Octets.{one, number, same}
+use Rattle.wire.specs.Numbers.{isFaults}
 use Rattle.wire.specs.Fields.{need}
+use Rattle.wire.specs.Messages.{inside}
 use Rattle.wire.specs.Votes.{signersIn}
 use Rattle.wire.specs.Readers.{readBody, readOrder, readCertificate, readFunding}
 use Rattle.wire.specs.Writers.{writeBody, writeOrder, writeCertificate, writeFunding}
@@ -22,7 +24,7 @@ unfoldable pub shownText : ℕ → List ℕ → List ℕ
 shownText f m =
     cond (eqb (number one m 0) 0x01) (bodyText (readBody m))
     (cond (eqb (number one m 0) 0x10) (orderReadText (readOrder m))
-    (cond (eqb (number one m 0) 0x20) (certificateReadText (readCertificate f m) (signersIn m))
+    (cond (eqb (number one m 0) 0x20) (certificateReadText (readCertificate f m) (readBody (inside m) .note) (signersIn m))
     (cond (eqb (number one m 0) 0x30) (fundingReadText (readFunding m))
     (refusedText 1))))
 
@@ -34,8 +36,9 @@ faultsOf line = cond (hasWords 3 line) (numberOf (wordAt 2 line)) 1
 unfoldable pub readText : List ℕ → List ℕ
 readText line =
     need (hasWords 2 line || hasWords 3 line) (faultText Fault.WordCount)
+    (need (isFaults (faultsOf line)) (refusedText 2)
     (need (isBytes (wordAt 1 line)) (faultText Fault.NotHexadecimal)
-    (shownText (faultsOf line) (bytesOf (wordAt 1 line))))
+    (shownText (faultsOf line) (bytesOf (wordAt 1 line)))))
 
 -- account or ledger: the kind of a recipient; another word is out of range
 unfoldable pub kindOf : List ℕ → ℕ

@@ -2,7 +2,8 @@
 ghost use mathlib.Core.Path.{_≡_};
 ghost use mathlib.Core.Bool.{true, _||_};
 ghost use Rattle.wire.specs.Votes.{signersIn};
-ghost use Rattle.wire.specs.Readers.{readCertificate};
+ghost use Rattle.wire.specs.Messages.{inside};
+ghost use Rattle.wire.specs.Readers.{readBody, readCertificate};
 ghost use Rattle.text.specs.Pages.{page, said};
 ghost use Rattle.text.specs.Words.{hasWords, isLine};
 ghost use Rattle.papers.specs.Papers.{certificateReadText};
@@ -19,14 +20,16 @@ use wire::answers::CertificateAnswer;
 use wire::answers::Refusal;
 
 fn show_certificate(f: u64, message: &[u8], out: &mut [u8], at: usize) -> usize
-    ensures { λ r. ⌜ page (now (out .exit)) r ≡ said (page (now (out .entry)) at) (certificateReadText (readCertificate f (now (message .entry))) (signersIn (now (message .entry)))) ⌝ }
+    ensures { λ r. ⌜ page (now (out .exit)) r ≡ said (page (now (out .entry)) at) (certificateReadText (readCertificate f (now (message .entry))) (readBody (inside (now (message .entry))) .note) (signersIn (now (message .entry)))) ⌝ }
 {
     match certificate::read_certificate(f, message) {
         CertificateAnswer::Refused(refusal) => refused(out, at, refusal),
         CertificateAnswer::Certifies(payment, _) => {
             let size = octets::get16(message, 1) as usize;
             let n = (message.len() - (size + 3)) / votes::VOTE_FIELD;
-            papers::certificate(out, at, message, payment, size + 6, n)
+            let read = body::read_body(octets::cut(message, 3, size));
+            let held = read.note;
+            papers::certificate(out, at, message, payment, held, size + 6, n)
         }
     }
 }
@@ -80,11 +83,15 @@ pub(crate) fn read_line(line: &[u8], out: &mut [u8], at: usize) -> usize
     if !is_read(line) {
         return unread(out, at, Fault::WordCount);
     }
+    let f = faults(line);
+    if f > 5 {
+        return refused(out, at, Refusal::OutOfRange);
+    }
     let word = words::word(line, 1);
     if !words::is_bytes(word) {
         return unread(out, at, Fault::NotHexadecimal);
     }
     let mut message = [0u8; words::BYTES];
     let n = words::read_bytes(&mut message, word);
-    show(faults(line), octets::cut(&message, 0, n), out, at)
+    show(f, octets::cut(&message, 0, n), out, at)
 }

@@ -1,4 +1,5 @@
 // State files. A new state is written beside the old one and synced, then renamed to its place, and then the folder is synced.
+use crate::complaints::complain;
 use crate::complaints::fail;
 use text::page::say;
 use text::page::say_signed;
@@ -19,7 +20,8 @@ pub enum Loaded {
     Unopened,
 }
 
-// Fills the state from a file, which must have that many bytes and no more.
+// Fills the state from a file, which must have that many bytes and no more. A run that was killed may have renamed it and not synced
+// yet, and what is answered from it must last.
 pub fn load(path: &[u8], state: &mut [u8]) -> Loaded {
     let file = os::open_read(path);
     if file < 0 {
@@ -28,7 +30,11 @@ pub fn load(path: &[u8], state: &mut [u8]) -> Loaded {
     let got = io::read_full(file, state);
     let mut more = [0u8; 1];
     let extra = io::read_full(file, &mut more);
+    let is_synced = libc::fsync(file) == 0;
     libc::close(file);
+    if !is_synced {
+        return Loaded::Unopened;
+    }
     if extra > 0 {
         return Loaded::Unlike;
     }
@@ -146,5 +152,12 @@ pub fn put_in_place(path: &[u8]) -> bool {
         drop_beside(path);
         return false;
     }
-    sync_name(path)
+    if !sync_name(path) {
+        complain(
+            path,
+            b"the new state is in its place, but the folder could not be synced",
+        );
+        return false;
+    }
+    true
 }

@@ -51,13 +51,18 @@ unfoldable pub machinesNamed : List ℕ → List ℕ
 machinesNamed [] = []
 machinesNamed (k ∷ ks) = ascii " " ++ decimal k ++ machinesNamed ks
 
--- a payment, and the machines that voted for it
-unfoldable pub certifiedText : List ℕ → List ℕ → List ℕ
-certifiedText vs machines = ascii "certificate: " ++ paymentText vs ++ ascii ", votes by" ++ machinesNamed machines
+-- a payment with its note, and the machines that voted for it
+unfoldable pub certifiedText : List ℕ → Note → List ℕ → List ℕ
+certifiedText vs note machines =
+    ascii "certificate: "
+    ++ paymentText vs
+    ++ noteText note
+    ++ ascii ", votes by"
+    ++ machinesNamed machines
 
 -- a certificate that was read: the number of machines comes before the payment's values
-unfoldable pub certificateReadText : Said → List ℕ → List ℕ
-certificateReadText said machines = answerText said (certifiedText (drop 1 (said .values)) machines)
+unfoldable pub certificateReadText : Said → Note → List ℕ → List ℕ
+certificateReadText said note machines = answerText said (certifiedText (drop 1 (said .values)) note machines)
 
 -- a funding order that was read
 unfoldable pub fundingReadText : Said → List ℕ

@@ -138,15 +138,17 @@ pub fn certificate(
     at: usize,
     message: &[u8],
     certified: Payment,
+    held: Note,
     place: usize,
     votes: usize,
 ) -> usize
     requires { ⌜ place + 68 * votes < length (now message) + 68 ⌝ }
-    ensures { λ r. ⌜ page (now (out .exit)) r ≡ said (page (now (out .entry)) at) (papers.certifiedText (paymentValues certified) (signers (now (message .entry)) place 68 votes)) ⌝ }
+    ensures { λ r. ⌜ page (now (out .exit)) r ≡ said (page (now (out .entry)) at) (papers.certifiedText (paymentValues certified) held (signers (now (message .entry)) place 68 votes)) ⌝ }
 {
     let named = say(out, at, b"certificate: ");
     let paid = payment(out, named, certified);
-    let next = say(out, paid, b", votes by");
+    let noted = note(out, paid, held);
+    let next = say(out, noted, b", votes by");
     machines(out, next, message, place, votes)
 }
 

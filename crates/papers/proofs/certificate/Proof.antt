@@ -1,4 +1,4 @@
--- A certificate is said in four steps, joined one after another. Assumes nothing.
+-- A certificate is said in five steps, joined one after another. Assumes nothing.
 use borrow.Author.Needs.{needs}
 use Rattle.text.specs.Ascii.{ascii}
 use Rattle.text.proofs.PageLaws.{said-then}
@@ -14,6 +14,9 @@ say-requires c κs = search needs
 
 payment-requires : tie.Need-payment-requires
 payment-requires c κs = search needs
+
+note-requires : tie.Need-note-requires
+note-requires c κs = search needs
 
 slice-aggregate-say-2 : tie.Need-slice-aggregate-say-2
 slice-aggregate-say-2 c = search needs
@@ -32,9 +35,10 @@ unfolding ascii certifiedText
 returns c =
     let last = c .before .before in
     let next = last .before .before .before .before in
-    let paid = next .before .before .before .before .before in
+    let noted = next .before .before .before .before .before in
+    let paid = noted .before .before .before .before in
     let named = paid .before .before .before .before in
-    said-then _ _ _ (said-then _ _ _ (said-then _ _ _ (named .say .ensures) (paid .payment .ensures)) (next .say2 .ensures)) (last .machines .ensures)
+    said-then _ _ _ (said-then _ _ _ (said-then _ _ _ (said-then _ _ _ (named .say .ensures) (paid .payment .ensures)) (noted .note .ensures)) (next .say2 .ensures)) (last .machines .ensures)
 
 pub certificate-spec : {M : Type 1} → statement M
 certificate-spec =
@@ -43,6 +47,7 @@ certificate-spec =
     slice-aggregate-say
     say-requires
     payment-requires
+    note-requires
     slice-aggregate-say-2
     say-requires-2
     machines-requires

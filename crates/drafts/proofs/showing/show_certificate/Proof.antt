@@ -1,8 +1,9 @@
--- A refusal is said as such; a certificate that was read has its votes where the code looks for them. Assumes nothing.
+-- A refusal is said as such; a certificate that was read has its body and its votes where the code looks for them. Assumes nothing.
+use native.Mathlib.Omega.{arith}
 use borrow.Author.Needs.{needs}
 use Rattle.papers.specs.Papers.{certificateReadText}
 use Rattle.refusals.proofs.RefusalLaws.{said-refused}
-use Rattle.drafts.proofs.ReadingLaws.{certificate-shown}
+use Rattle.drafts.proofs.ReadingLaws.{certificate-shown, note-enclosed}
 use Rattle.drafts.proofs.showing.show_certificate.Statement.{statement}
 use Rattle.drafts.proofs.showing.show_certificate.Tie as tie
 
@@ -35,15 +36,22 @@ sub-n c =
     let shown = certificate-shown (called .before .before .before .args .f) (called .before .before .before .args .message .now) (rw (answered .payment .given .1) at (called .read-certificate .ensures)) in
     rw (c .get16 .ensures .0) (shown .body)
 
+cut-requires : tie.Need-cut-requires
+cut-requires c κs = let held = sub-n c in omega arith
+
+read-body-requires : tie.Need-read-body-requires
+read-body-requires c κs = search needs
+
 add-certificate : tie.Need-add-certificate
 add-certificate c = search needs
 
 certificate-requires : tie.Need-certificate-requires
 certificate-requires c κs =
-    let answered = c .before .before .before in
+    let sized = c .before .before .before .before in
+    let answered = sized .before .before in
     let called = answered .before .before in
     let shown = certificate-shown (called .before .before .before .args .f) (called .before .before .before .args .message .now) (rw (answered .payment .given .1) at (called .read-certificate .ensures)) in
-    rw (c .before .get16 .ensures .0) (shown .room)
+    rw (sized .get16 .ensures .0) (shown .room)
 
 same-length : tie.Need-same-length
 same-length c = search needs
@@ -59,7 +67,13 @@ same-length-2 c = search needs
 
 returns-2 : tie.Need-returns-2
 unfolding certificateReadText
-returns-2 c = rw (← c .before .before .before .before .before .before .before .before .read-certificate .ensures, c .before .before .before .before .before .before .payment .given .1) (rw (c .before .before .before .before .get16 .ensures .0) at (c .before .before .certificate .ensures))
+returns-2 c =
+    let last = c .before .before in
+    let read = last .before .before .before in
+    let sized = read .before .before in
+    let answered = sized .before .before in
+    let noted = note-enclosed _ (read .read-body .ensures) (read .before .cut .ensures .0) (sized .get16 .ensures .0) in
+    rw (← answered .before .before .read-certificate .ensures, answered .payment .given .1) (rw (noted, sized .get16 .ensures .0) at (last .certificate .ensures))
 
 pub show-certificate-spec : {M : Type 1} → statement M
 show-certificate-spec =
@@ -72,6 +86,8 @@ show-certificate-spec =
     get16-requires
     add-n
     sub-n
+    cut-requires
+    read-body-requires
     add-certificate
     certificate-requires
     same-length

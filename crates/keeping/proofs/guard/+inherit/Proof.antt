@@ -1,5 +1,6 @@
--- `keeping::guard::inherit` is safe and ends: the turns that are left are the measure. Assumes nothing.
-use Prim.Native.Nat.{ℕ, _<_}
+-- `keeping::guard::inherit` is safe and ends: the depth that is left is the measure. Assumes nothing.
+use Prim.Native.Nat.{ℕ, _-_, _<_}
+use native.Mathlib.Omega.{arith}
 use borrow.Author.Needs.{needs}
 use borrow.Fn.Kinds.{In}
 use borrow.Fn.PlainCycle.{Measures, is, falls, and}
@@ -15,7 +16,7 @@ use Rattle.keeping.proofs.guard.+inherit.{statement}
 use Rattle.keeping.proofs.guard.+inherit.Tie.{close}
 
 abbrev μ-inherit : Measures 4 inherit-kinds.ps ℕ
-μ-inherit κs a = a .1 .1 .1 .1 .0
+μ-inherit κs a = 8 - a .1 .1 .1 .1 .0
 
 -- what `inherit` is given at the measure t, and what a call of it asks below t
 abbrev inherit-at : ℕ → In 4 inherit-kinds.ps
@@ -55,32 +56,44 @@ inherit-slice-aggregate-heir-mark t c = search needs
 inherit-heir-mark-requires : (t : ℕ) → inherit-lts.Need-heir-mark-requires (calls t) (inherit-at t) inherit.Post
 inherit-heir-mark-requires t c κs = search needs
 
+inherit-enum-known-n : (t : ℕ) → inherit-lts.Need-enum-known-n (calls t) (inherit-at t) inherit.Post
+inherit-enum-known-n t c = search needs
+
+inherit-slice-aggregate-complain-2 : (t : ℕ) → inherit-lts.Need-slice-aggregate-complain-2 (calls t) (inherit-at t) inherit.Post
+inherit-slice-aggregate-complain-2 t c = search needs
+
+inherit-complain-requires-2 : (t : ℕ) → inherit-lts.Need-complain-requires-2 (calls t) (inherit-at t) inherit.Post
+inherit-complain-requires-2 t c κs = search needs
+
+inherit-returns-2 : (t : ℕ) → inherit-lts.Need-returns-2 (calls t) (inherit-at t) inherit.Post
+inherit-returns-2 t c = search needs
+
 inherit-slice-aggregate-up-to : (t : ℕ) → inherit-lts.Need-slice-aggregate-up-to (calls t) (inherit-at t) inherit.Post
 inherit-slice-aggregate-up-to t c = search needs
 
 inherit-up-to-requires : (t : ℕ) → inherit-lts.Need-up-to-requires (calls t) (inherit-at t) inherit.Post
 inherit-up-to-requires t c κs = search needs
 
-inherit-sub-inherit : (t : ℕ) → inherit-lts.Need-sub-inherit (calls t) (inherit-at t) inherit.Post
-inherit-sub-inherit t c = search needs
+inherit-add-inherit : (t : ℕ) → inherit-lts.Need-add-inherit (calls t) (inherit-at t) inherit.Post
+inherit-add-inherit t c = search needs
 
 inherit-inherit-requires : (t : ℕ) → inherit-lts.Need-inherit-requires (calls t) (inherit-at t) inherit.Post
 inherit-inherit-requires t c κs = search needs
 
-inherit-returns-2 : (t : ℕ) → inherit-lts.Need-returns-2 (calls t) (inherit-at t) inherit.Post
-inherit-returns-2 t c = search needs
+inherit-returns-3 : (t : ℕ) → inherit-lts.Need-returns-3 (calls t) (inherit-at t) inherit.Post
+inherit-returns-3 t c = search needs
 
 inherit-drop-heir-requires : (t : ℕ) → inherit-lts.Need-drop-heir-requires (calls t) (inherit-at t) inherit.Post
 inherit-drop-heir-requires t c κs = search needs
-
-inherit-returns-3 : (t : ℕ) → inherit-lts.Need-returns-3 (calls t) (inherit-at t) inherit.Post
-inherit-returns-3 t c = search needs
 
 inherit-returns-4 : (t : ℕ) → inherit-lts.Need-returns-4 (calls t) (inherit-at t) inherit.Post
 inherit-returns-4 t c = search needs
 
 inherit-returns-5 : (t : ℕ) → inherit-lts.Need-returns-5 (calls t) (inherit-at t) inherit.Post
 inherit-returns-5 t c = search needs
+
+inherit-returns-6 : (t : ℕ) → inherit-lts.Need-returns-6 (calls t) (inherit-at t) inherit.Post
+inherit-returns-6 t c = search needs
 
 pub +inherit-spec : {M : Type 1} → statement M
 +inherit-spec = close μ-inherit λ t. inherit-lts.spec (calls t)
@@ -95,12 +108,16 @@ pub +inherit-spec : {M : Type 1} → statement M
     (inherit-returns t)
     (inherit-slice-aggregate-heir-mark t)
     (inherit-heir-mark-requires t)
+    (inherit-enum-known-n t)
+    (inherit-slice-aggregate-complain-2 t)
+    (inherit-complain-requires-2 t)
+    (inherit-returns-2 t)
     (inherit-slice-aggregate-up-to t)
     (inherit-up-to-requires t)
-    (inherit-sub-inherit t)
+    (inherit-add-inherit t)
     (inherit-inherit-requires t)
-    (inherit-returns-2 t)
-    (inherit-drop-heir-requires t)
     (inherit-returns-3 t)
+    (inherit-drop-heir-requires t)
     (inherit-returns-4 t)
     (inherit-returns-5 t)
+    (inherit-returns-6 t)
