@@ -145,7 +145,7 @@ order-short {said} s = answer-short _ s (either (eqb (refusals.value said 0) 0) 
 certificate-short : {said : Said} → Small said → ShortText (certificateText said)
 unfolding certificateText ascii
 certificate-short {said} s =
-    let how = either (eqb (refusals.value said 0) 0) (ascii "confirmed by ") (ascii "already confirmed, this time by ") 32 (lit≤ tt) (lit≤ tt) in
+    let how = either (eqb (refusals.value said 0) 0) (ascii "confirmed by ") (ascii "already: this sequence was confirmed before; votes of ") 64 (lit≤ tt) (lit≤ tt) in
     let many = either (eqb (refusals.value said 1) 1) (ascii " machine") (ascii " machines") 9 (lit≤ tt) (lit≤ tt) in
     answer-short _ s (simp length-append (omega (arith, how, value-short 1 s, many)))
 

@@ -2,9 +2,11 @@
 use Prim.Native.Nat.{ℕ, _+_, _<_, _≤_}
 use mathlib.Core.Bool.{true}
 use mathlib.Core.Path.{_≡_}
-use mathlib.Core.List.{List}
+use mathlib.Core.List.{List, _++_}
 use lib.ListN.{length, getD}
-use Rattle.text.specs.Pages.{decimal, hexadecimal}
+use Rattle.octets.specs.Octets.{put}
+use Rattle.text.specs.Ascii.{ascii}
+use Rattle.text.specs.Pages.{Page, page, decimal, hexadecimal}
 use Rattle.text.specs.Words.{numberOf, isBytes, bytesOf}
 use Rattle.lines.specs.Calls.{machineLine, ledgerLine, Desk}
 use Rattle.lines.specs.Serving.{replyOf, answered, hasRoom}
@@ -13,6 +15,10 @@ use Rattle.lines.specs.declared.serving.Role.{Role}
 -- each is a byte
 abbrev pub Bytes : List ℕ → Type 0
 Bytes bs = (i : ℕ) → getD bs i 0 < 256
+
+-- a page with all of a text behind what stands there
+abbrev pub behind : Page → List ℕ → Page
+behind p text = page (put (p .bytes) (p .length) text) (p .length + length text)
 
 -- what is promised of printed text
 pub record Legible : Type 0 where
@@ -23,6 +29,6 @@ pub record Legible : Type 0 where
   -- no answer has more than 255 bytes, whatever the bytes of the state and the line are
   pub machine-short : (s line : List ℕ) → length (machineLine s line .text) ≤ 255
   pub ledger-short : (s line : List ℕ) → Bytes s → length (ledgerLine s line .text) ≤ 255
-  -- so where the page has room, all of the answer and its line feed stand on it
+  -- so where the page has room, all of the answer stands on it, and its line feed
   pub whole : (role : Role) (d : Desk) (line : List ℕ) → Bytes (d .state) → hasRoom (d .page) ≡ true
-      → answered role d line .page .length ≡ d .page .length + length (replyOf role (d .state) line .text) + 1
+      → answered role d line .page ≡ behind (d .page) (replyOf role (d .state) line .text ++ ascii "\n")

@@ -4,6 +4,18 @@ use crate::wording::{self, Fault};
 use crate::words::{self, LONGEST_LINE};
 use second::{Confirmation, Refusal, Vote};
 
+/// No balance lies further from zero, and no pot is higher.
+pub const LIMIT: i64 = 1_000_000_000_000_000;
+
+/// A machine's state: a header, and a record for each account.
+pub const MACHINE_HEADER_LENGTH: usize = 8;
+pub const RECORD_LENGTH: usize = 72;
+
+/// Where an account's record begins in a machine's state.
+pub const fn record_place(account: usize) -> usize {
+    MACHINE_HEADER_LENGTH + RECORD_LENGTH * account
+}
+
 #[derive(Clone, Copy, PartialEq, Eq, Debug)]
 pub enum Role {
     Machine,

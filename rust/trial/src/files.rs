@@ -1,7 +1,7 @@
 //! State files that are none. What the program refuses it must leave alone, byte for byte and with nothing beside it.
 
 use crate::chance::Chance;
-use crate::desk::{Desk, Role, ROLES};
+use crate::desk::{record_place, Desk, Role, LIMIT, MACHINE_HEADER_LENGTH, RECORD_LENGTH, ROLES};
 use crate::fresh;
 use crate::messages;
 use crate::place::Place;
@@ -13,9 +13,7 @@ use std::sync::atomic::{AtomicBool, Ordering};
 
 /// The account whose record is changed by hand: it has a body pending.
 const ACCOUNT: usize = 5;
-const RECORD: usize = 8 + 72 * ACCOUNT;
-const RECORD_LENGTH: usize = 72;
-const LIMIT: i64 = 1_000_000_000_000_000;
+const RECORD: usize = record_place(ACCOUNT);
 const WORKERS: usize = 4;
 const LIVED_IN: usize = 12;
 const SAMPLES: usize = 100;
@@ -208,7 +206,7 @@ impl Files<'_> {
     /// Every change of one byte of a header.
     fn headers(&mut self, role: Role) -> Tried<()> {
         let length = match role {
-            Role::Machine => 8,
+            Role::Machine => MACHINE_HEADER_LENGTH,
             Role::Ledger => 16,
         };
         let state = fresh_state(role, 1, 2)?;
@@ -257,47 +255,11 @@ impl Files<'_> {
     }
 
     fn records(&mut self) -> Tried<()> {
-        let own = ACCOUNT as u64;
-        let long = body(own, 9, 20, &[3; 32]);
-        let short = body(own, 9, 20, &[]);
-        let behind = [&record(9, 7, &short)[..40], &[1]].concat();
-        let next = RECORD + RECORD_LENGTH;
-        let changes = vec![
-            good("a body with a note", RECORD, record(9, -5, &long)),
-            good("a body without one", RECORD, record(9, 7, &short)),
-            good("the highest next", RECORD, record(4_096, 0, &[])),
-            good("the highest balance", RECORD, record(0, LIMIT, &[])),
-            good("the lowest balance", RECORD, record(0, -LIMIT, &[])),
-            bad("next 4,097", RECORD, record(4_097, 0, &[])),
-            bad("too high a balance", RECORD, record(0, LIMIT + 1, &[])),
-            bad("too low a balance", RECORD, record(0, -LIMIT - 1, &[])),
-            bad("the lowest number", RECORD, record(0, i64::MIN, &[])),
-            bad("in use 2", RECORD, [2]),
-            bad("in use 255", RECORD, [255]),
-            bad("out of use with a record", RECORD, [0]),
-            bad("out of use with a pending length", next + 1, [25]),
-            bad("out of use with a next", next + 3, [1]),
-            bad("out of use with a balance", next + 11, [1]),
-            bad("out of use with a last byte", next + 71, [1]),
-            bad("pending length 58", RECORD + 1, [58]),
-            bad("pending length 255", RECORD + 1, [255]),
-            bad("pending length 0 with a body", RECORD + 1, [0]),
-            bad("pending length one less", RECORD + 1, [56]),
-            bad("the first of the last three", RECORD + 69, [1]),
-            bad("the last of the last three", RECORD + 71, [1]),
-            bad("a byte behind a short body", RECORD, behind),
-            bad("another sender", RECORD, record(9, 7, &body(6, 9, 20, &[]))),
-            bad(
-                "another sequence",
-                RECORD,
-                record(9, 7, &body(own, 8, 20, &[])),
-            ),
-            bad("amount 0", RECORD, record(9, 7, &body(own, 9, 0, &[]))),
-            bad("a body of 24 bytes", RECORD, record(9, 7, &short[..24])),
-            bad("a wrong tag in the body", RECORD + 12 + 4, [9]),
-            bad("the last record", 8 + 72 * 63, [2]),
-        ];
-        self.try_changes(Role::Machine, &with_record()?, changes)
+        let state = with_record()?;
+        for changes in [record_numbers(), records_out_of_use(), pending_bodies()] {
+            self.try_changes(Role::Machine, &state, changes)?;
+        }
+        Ok(())
     }
 
     /// Changes of every byte of a record with a pending body.
@@ -367,14 +329,65 @@ fn with_record() -> Tried<Vec<u8>> {
     Ok(state)
 }
 
+fn record_numbers() -> Vec<Change> {
+    vec![
+        good("the highest next", RECORD, record(4_096, 0, &[])),
+        good("the highest balance", RECORD, record(0, LIMIT, &[])),
+        good("the lowest balance", RECORD, record(0, -LIMIT, &[])),
+        bad("next 4,097", RECORD, record(4_097, 0, &[])),
+        bad("too high a balance", RECORD, record(0, LIMIT + 1, &[])),
+        bad("too low a balance", RECORD, record(0, -LIMIT - 1, &[])),
+        bad("the lowest number", RECORD, record(0, i64::MIN, &[])),
+    ]
+}
+
+/// Records that are neither in use nor out of use, and some out of use that are not empty.
+fn records_out_of_use() -> Vec<Change> {
+    let next = RECORD + RECORD_LENGTH;
+    vec![
+        bad("in use 2", RECORD, [2]),
+        bad("in use 255", RECORD, [255]),
+        bad("out of use with a record", RECORD, [0]),
+        bad("out of use with a pending length", next + 1, [25]),
+        bad("out of use with a next", next + 3, [1]),
+        bad("out of use with a balance", next + 11, [1]),
+        bad("out of use with a last byte", next + 71, [1]),
+        bad("the last record", record_place(63), [2]),
+    ]
+}
+
+fn pending_bodies() -> Vec<Change> {
+    let own = ACCOUNT as u64;
+    let long = body(own, 9, 20, &[3; 32]);
+    let short = body(own, 9, 20, &[]);
+    let behind = [&record(9, 7, &short)[..40], &[1]].concat();
+    let earlier = body(own, 8, 20, &[]);
+    vec![
+        good("a body with a note", RECORD, record(9, -5, &long)),
+        good("a body without one", RECORD, record(9, 7, &short)),
+        bad("pending length 58", RECORD + 1, [58]),
+        bad("pending length 255", RECORD + 1, [255]),
+        bad("pending length 0 with a body", RECORD + 1, [0]),
+        bad("pending length one less", RECORD + 1, [56]),
+        bad("the first of the last three", RECORD + 69, [1]),
+        bad("the last of the last three", RECORD + 71, [1]),
+        bad("a byte behind a short body", RECORD, behind),
+        bad("another sender", RECORD, record(9, 7, &body(6, 9, 20, &[]))),
+        bad("another sequence", RECORD, record(9, 7, &earlier)),
+        bad("amount 0", RECORD, record(9, 7, &body(own, 9, 0, &[]))),
+        bad("a body of 24 bytes", RECORD, record(9, 7, &short[..24])),
+        bad("a wrong tag in the body", RECORD + 12 + 4, [9]),
+    ]
+}
+
 fn changed(chance: &mut Chance, state: &[u8]) -> Vec<u8> {
     let mut state = state.to_vec();
     for _ in 0..=chance.below(3) {
         let account = *chance.pick(&[0, 2, 7, 31, 63, 40]);
         let at = match chance.below(4) {
             0 => chance.below(state.len()),
-            1 => 8 + RECORD_LENGTH * account + chance.below(RECORD_LENGTH),
-            _ => 8 + RECORD_LENGTH * account + chance.below(16),
+            1 => record_place(account) + chance.below(RECORD_LENGTH),
+            _ => record_place(account) + chance.below(16),
         };
         state[at] = match chance.below(4) {
             0 => chance.byte(),

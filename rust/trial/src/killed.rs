@@ -9,11 +9,13 @@ use crate::streams::{joined, random_lines};
 use crate::trial::{
     answer_lines, check_answers, check_prefix, check_quiet, side_by_side, Trial, Tried,
 };
+use std::os::unix::process::ExitStatusExt;
 use std::sync::atomic::{AtomicBool, Ordering};
 use std::thread;
 use std::time::{Duration, Instant};
 
 const KILLS: usize = 1_000;
+const SIGKILL: i32 = 9;
 const WORKERS: usize = 2;
 const MEASURES: usize = 5;
 
@@ -21,6 +23,8 @@ const MEASURES: usize = 5;
 #[derive(Default)]
 struct Falls {
     kills: usize,
+    /// Runs that had ended by themselves when the kill came. They are in none of the other counts.
+    ended: usize,
     before: usize,
     between: usize,
     after: usize,
@@ -36,6 +40,7 @@ struct Falls {
 impl Falls {
     fn add(&mut self, other: &Falls) {
         self.kills += other.kills;
+        self.ended += other.ended;
         self.before += other.before;
         self.between += other.between;
         self.after += other.after;
@@ -77,7 +82,7 @@ impl Course {
     }
 }
 
-/// What a killed run had come to.
+/// What a run that was to be killed had come to.
 struct Found {
     /// How many lines it had answered in full.
     printed: usize,
@@ -97,11 +102,12 @@ pub fn run(trial: &Trial) -> Tried<String> {
         ));
     }
     Ok(format!(
-        "{} kills over {} states: {} before the first write, {} between writes, {} behind the last, {} where nothing was to be \
-         written; {} left a lock, {} a new state not yet renamed, {} a state with answers not yet printed; started again each time, {} \
-         times with lines from before",
+        "{} kills over {} states, beside {} runs that had ended by themselves; of the kills {} before the first write, {} between \
+         writes, {} behind the last, {} where nothing was to be written; {} left a lock, {} a new state not yet renamed, {} a state \
+         with answers not yet printed; started again each time, {} times with lines from before",
         falls.kills,
         falls.states,
+        falls.ended,
         falls.before,
         falls.between,
         falls.after,
@@ -191,7 +197,7 @@ fn measure(trial: &Trial, place: &Place, role: Role, number: usize) -> Tried<Dur
     Ok(sum / MEASURES as u32)
 }
 
-/// One state: a run that is killed, up to three more, and one that is not.
+/// One state: a run that is killed unless it ends before that, up to three more, and one that is not.
 struct Life<'a> {
     trial: &'a Trial,
     place: &'a Place,
@@ -204,10 +210,10 @@ impl Life<'_> {
     fn live(&mut self, falls: &mut Falls) -> Tried<()> {
         let mut course = course(&mut self.chance, self.role)?;
         self.place.put(&course.states[0])?;
-        let kills = 1 + self.chance.below(4);
-        for kill in 0..kills {
+        let turns = 1 + self.chance.below(4);
+        for turn in 0..turns {
             let found = self.kill(&course, falls);
-            let found = found.map_err(|reason| format!("kill {kill}: {reason}"))?;
+            let found = found.map_err(|reason| format!("turn {turn}: {reason}"))?;
             let mut from = found.printed;
             if self.chance.one_in(4) {
                 from = self.chance.below(found.printed + 1);
@@ -219,7 +225,7 @@ impl Life<'_> {
         let ended = self.trial.program.run(self.role, self.place, input);
         ended
             .and_then(|ended| check_whole(&course, self.place, &ended))
-            .map_err(|reason| format!("behind {kills} kills: {reason}"))
+            .map_err(|reason| format!("behind {turns} turns: {reason}"))
     }
 
     /// The lines from one on, with more behind them where few are left.
@@ -265,6 +271,9 @@ impl Life<'_> {
         ended: &Ended,
         falls: &mut Falls,
     ) -> Tried<Found> {
+        if ended.status.signal() != Some(SIGKILL) {
+            return judge_ended(course, self.place, ended, falls);
+        }
         check_quiet(ended)?;
         let printed = printed(course, ended)?;
         let state = self.place.get()?;
@@ -294,6 +303,19 @@ impl Life<'_> {
         }
         Ok(())
     }
+}
+
+/// A run that had ended by itself must have come to its end in the right way.
+fn judge_ended(course: &Course, place: &Place, ended: &Ended, falls: &mut Falls) -> Tried<Found> {
+    if !ended.status.success() {
+        return Err(format!("the program ended with {}", ended.status));
+    }
+    check_whole(course, place, ended)?;
+    falls.ended += 1;
+    Ok(Found {
+        printed: course.lines.len(),
+        reached: course.lines.len(),
+    })
 }
 
 fn check_whole(course: &Course, place: &Place, ended: &Ended) -> Tried<()> {

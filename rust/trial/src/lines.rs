@@ -74,9 +74,11 @@ fn check_count(input: &[u8], answers: usize) -> Tried<()> {
     Ok(())
 }
 
-fn cases(chance: &mut Chance, desk: &Desk) -> Vec<(&'static str, Vec<u8>)> {
+/// What an input is, and the input.
+type Case = (&'static str, Vec<u8>);
+
+fn cases(chance: &mut Chance, desk: &Desk) -> Vec<Case> {
     let good = good_lines(desk);
-    let long = |length: usize| [&vec![b'a'; length], b"\n".as_slice(), &good].concat();
     let mut cases = vec![
         ("nothing", Vec::new()),
         ("good lines alone", good.clone()),
@@ -85,30 +87,10 @@ fn cases(chance: &mut Chance, desk: &Desk) -> Vec<(&'static str, Vec<u8>)> {
             "100,000 line feeds",
             [vec![b'\n'; 100_000], good.clone()].concat(),
         ),
-        ("a line of 4,096 bytes", long(LONGEST_LINE)),
-        ("a line of 4,097 bytes", long(LONGEST_LINE + 1)),
-        ("a line of 65,535 bytes", long(65_535)),
-        ("a line of 65,536 bytes", long(65_536)),
-        ("a line of 70,000 bytes", long(70_000)),
-        ("a line of 5 megabytes", long(5 * MEGABYTE)),
-        ("an end inside a line", b"account".to_vec()),
-        ("an end inside a long line", vec![b' '; LONGEST_LINE]),
-        ("an end inside one too long", vec![b' '; LONGEST_LINE + 1]),
-        ("an end far inside one too long", vec![0; MEGABYTE]),
-        ("an end right behind a blank", b"\n ".to_vec()),
-        (
-            "noise",
-            [&chance.bytes(MEGABYTE), b"\n".as_slice(), &good].concat(),
-        ),
-        (
-            "noise that is cut",
-            [&chance.bytes(MEGABYTE), b"x".as_slice()].concat(),
-        ),
-        (
-            "noise of long lines",
-            [long_noise(chance), good.clone()].concat(),
-        ),
     ];
+    cases.extend(long_lines(&good));
+    cases.extend(cut_lines());
+    cases.extend(noises(chance, &good));
     for length in [LONGEST_LINE - 1, LONGEST_LINE, LONGEST_LINE + 1] {
         cases.push(("padded lines", padded(&good, length)));
         cases.push((
@@ -117,6 +99,43 @@ fn cases(chance: &mut Chance, desk: &Desk) -> Vec<(&'static str, Vec<u8>)> {
         ));
     }
     cases
+}
+
+/// Good lines behind one that is about as long as a line may be, or longer.
+fn long_lines(good: &[u8]) -> Vec<Case> {
+    let long = |length: usize| [&vec![b'a'; length], b"\n".as_slice(), good].concat();
+    vec![
+        ("a line of 4,096 bytes", long(LONGEST_LINE)),
+        ("a line of 4,097 bytes", long(LONGEST_LINE + 1)),
+        ("a line of 65,535 bytes", long(65_535)),
+        ("a line of 65,536 bytes", long(65_536)),
+        ("a line of 70,000 bytes", long(70_000)),
+        ("a line of 5 megabytes", long(5 * MEGABYTE)),
+    ]
+}
+
+fn cut_lines() -> Vec<Case> {
+    vec![
+        ("an end inside a line", b"account".to_vec()),
+        ("an end inside a long line", vec![b' '; LONGEST_LINE]),
+        ("an end inside one too long", vec![b' '; LONGEST_LINE + 1]),
+        ("an end far inside one too long", vec![0; MEGABYTE]),
+        ("an end right behind a blank", b"\n ".to_vec()),
+    ]
+}
+
+fn noises(chance: &mut Chance, good: &[u8]) -> Vec<Case> {
+    vec![
+        (
+            "noise",
+            [&chance.bytes(MEGABYTE), b"\n".as_slice(), good].concat(),
+        ),
+        (
+            "noise that is cut",
+            [&chance.bytes(MEGABYTE), b"x".as_slice()].concat(),
+        ),
+        ("noise of long lines", [&long_noise(chance), good].concat()),
+    ]
 }
 
 /// One that changes the state, and one that shows it.

@@ -8,7 +8,7 @@ use std::ffi::OsStr;
 use std::fs::File;
 use std::io::{Read, Write};
 use std::path::PathBuf;
-use std::process::{Child, ChildStdin, Command, Stdio};
+use std::process::{Child, ChildStdin, Command, ExitStatus, Stdio};
 use std::sync::mpsc::{self, Receiver, RecvTimeoutError};
 use std::thread::{self, JoinHandle};
 use std::time::{Duration, Instant};
@@ -20,10 +20,11 @@ pub struct Program {
     pub path: PathBuf,
 }
 
-/// What a run printed until it ended.
+/// What a run printed until it ended, and how it ended.
 pub struct Ended {
     pub answers: Vec<u8>,
     pub complaints: String,
+    pub status: ExitStatus,
 }
 
 pub struct Running {
@@ -223,17 +224,17 @@ impl Running {
         Ok(Ended {
             answers: self.printed.split_off(self.taken),
             complaints,
+            status,
         })
     }
 
-    /// Ends it by SIGKILL, and gives what it had printed.
+    /// Ends it by SIGKILL, and gives what it had printed. The status tells whether it had ended by itself before.
     pub fn kill(mut self) -> Tried<Ended> {
         self.child
             .kill()
             .map_err(|error| format!("the program cannot be killed: {error}"))?;
-        self.child
-            .wait()
-            .map_err(|error| format!("the program cannot be awaited: {error}"))?;
+        let status = self.child.wait();
+        let status = status.map_err(|error| format!("the program cannot be awaited: {error}"))?;
         let deadline = Instant::now() + PATIENCE;
         let (Some(answers), Some(complaints)) = (
             drain(&self.answers, deadline),
@@ -245,6 +246,7 @@ impl Running {
         Ok(Ended {
             answers: self.printed,
             complaints: String::from_utf8_lossy(&complaints).into_owned(),
+            status,
         })
     }
 

@@ -1,7 +1,8 @@
 //! No room for a new state, a file system that is only read, and answers that cannot be printed.
 //!
 //! This needs a small file system of its own. The trial runs itself once more in a name space of mounts that nobody else sees: what is
-//! mounted there is gone when that run ends, however it ends.
+//! mounted there is gone when that run ends, however it ends. Where that is not allowed the part fails, unless `TRIAL_WITHOUT_MOUNT` is
+//! set in the environment.
 
 use crate::desk::{Desk, Role, ROLES};
 use crate::fresh;
@@ -14,6 +15,9 @@ use std::ffi::OsStr;
 use std::fs::{self, File};
 use std::path::{Path, PathBuf};
 use std::process::{self, Command, Stdio};
+
+/// Where this is set in the environment, the part may go without a file system of its own.
+const WITHOUT_MOUNT: &str = "TRIAL_WITHOUT_MOUNT";
 
 /// The word that says that this run is the one inside.
 pub const INSIDE: &str = "--inside";
@@ -36,7 +40,14 @@ pub fn run(trial: &Trial) -> Tried<String> {
             return Ok(done);
         }
     }
-    Ok("not tried here, since no file system could be mounted".to_string())
+    if env::var_os(WITHOUT_MOUNT).is_none() {
+        return Err(format!(
+            "no file system could be mounted here; set {WITHOUT_MOUNT} in the environment to go without"
+        ));
+    }
+    Ok(format!(
+        "not tried here, since no file system could be mounted and {WITHOUT_MOUNT} is set"
+    ))
 }
 
 /// Answers that cannot be printed: the state has what they would say.

@@ -2,7 +2,7 @@
 
 use crate::desk::{Desk, Role, ROLES};
 use crate::place::{self, Place};
-use crate::program::{whole, Running};
+use crate::program::{whole, Ended, Running};
 use crate::streams::{changing_line, joined, showing_line};
 use crate::trial::{ask, check_stopped, serves, side_by_side, Trial, Tried};
 use std::ffi::OsStr;
@@ -13,12 +13,22 @@ use std::sync::Barrier;
 use std::thread;
 use std::time::{Duration, Instant};
 
-/// How long a program that finds a state in use may take to say so, where others use the processors too.
-const AT_ONCE: Duration = Duration::from_secs(10);
+/// How long a program may take to say that a state is in use, or to end. An empty lock is given two seconds for its maker to write
+/// it, and others use the processors too.
+const AT_ONCE: Duration = Duration::from_secs(30);
+/// The file of the first who takes over a lock that was left over.
+const HEIR: &str = "state.heir1";
 const CROWD: usize = 6;
 const CROWDS: usize = 10;
 /// More of these: there are only moments in which two can take one lock for left over.
 const CROWDS_AT_A_LOCK: usize = 100;
+/// What those may say who come too late at a lock that was left over: while it is being taken over there may be nobody to name yet.
+const TOO_LATE: [&str; 4] = [
+    "in use by process",
+    "another program is just taking it over",
+    "another program is just starting on it",
+    "another program took the lock",
+];
 
 pub fn run(trial: &Trial) -> Tried<String> {
     let place = Place::new(&trial.folder, "shared")?;
@@ -61,6 +71,72 @@ fn dead_process() -> Tried<u32> {
         .wait()
         .map_err(|error| format!("`true` cannot be awaited: {error}"))?;
     Ok(number)
+}
+
+/// Locks that belong to no process that runs, each with what is the matter with it.
+fn left_over_locks(boot: &str, own: u32, dead: u32) -> Vec<(&'static str, String)> {
+    vec![
+        ("a dead process", format!("{dead} {boot}")),
+        ("nothing", String::new()),
+        ("a line feed", "\n".to_string()),
+        (
+            "another boot",
+            format!("{own} 01234567-89ab-cdef-0123-456789abcdef\n"),
+        ),
+        ("no boot", format!("{own}\n")),
+        ("no number", format!("x {boot}")),
+        (
+            "too large a number",
+            format!("{} {boot}", u64::from(own) + (1 << 32)),
+        ),
+        ("a long text", "1".repeat(5_000)),
+        // A machine that lost its power may find such a file.
+        ("20 zero bytes", "\0".repeat(20)),
+        // No file may be named after what a lock says.
+        ("a path for a number", format!("../x {boot}")),
+    ]
+}
+
+/// One of a crowd came too late: it names the first, or at a lock that was left over says one of a few other things.
+fn check_late(ended: &Ended, first: u32, at_lock: bool) -> Tried<()> {
+    if !at_lock {
+        return check_stopped(ended, &format!("in use by process {first}"));
+    }
+    if TOO_LATE
+        .iter()
+        .any(|words| ended.complaints.contains(words))
+    {
+        // No answer, and a complaint of the program's own.
+        return check_stopped(ended, "cartlozenge: ");
+    }
+    Err(format!(
+        "expected a complaint with one of {TOO_LATE:?}, came: {}",
+        ended.complaints
+    ))
+}
+
+/// Waits until all but one have ended. Answers that one and what became of the others.
+fn await_first(mut crowd: Vec<Running>) -> Tried<(Running, Vec<Ended>)> {
+    let deadline = Instant::now() + AT_ONCE;
+    let mut late = Vec::new();
+    while crowd.len() > 1 {
+        let mut place = 0;
+        while place < crowd.len() {
+            if crowd[place].has_ended()? {
+                late.push(crowd.remove(place).finish()?);
+            } else {
+                place += 1;
+            }
+        }
+        if Instant::now() > deadline {
+            return Err(format!("{} of {CROWD} serve", crowd.len()));
+        }
+        thread::sleep(Duration::from_micros(200));
+    }
+    match crowd.pop() {
+        Some(first) => Ok((first, late)),
+        None => Err("none of them serves".to_string()),
+    }
 }
 
 impl Shared<'_> {
@@ -145,22 +221,7 @@ impl Shared<'_> {
         let boot = boot_text()?;
         let own = process::id();
         let dead = dead_process()?;
-        let left_over = [
-            ("a dead process", format!("{dead} {boot}")),
-            ("an empty one", String::new()),
-            ("a line feed", "\n".to_string()),
-            (
-                "another boot",
-                format!("{own} 01234567-89ab-cdef-0123-456789abcdef\n"),
-            ),
-            ("no boot", format!("{own}\n")),
-            ("no number", format!("x {boot}")),
-            (
-                "too large a number",
-                format!("{} {boot}", u64::from(own) + (1 << 32)),
-            ),
-            ("a long one", "1".repeat(5_000)),
-        ];
+        let left_over = left_over_locks(&boot, own, dead);
         for (what, text) in &left_over {
             self.left_over(text.as_bytes(), dead)
                 .map_err(|reason| format!("a lock with {what}: {reason}"))?;
@@ -179,24 +240,34 @@ impl Shared<'_> {
 
     /// A process that was killed while it took over a lock of another that was. Answers how many.
     fn heirs(&self, boot: &str) -> Tried<usize> {
-        let dead = dead_process()?;
-        let lock = format!("{dead} {boot}");
-        let name = format!("state.{dead}.lock");
-        let heir = self.place.folder.join(&name);
-        let marks = [format!("{} {boot}", dead_process()?), String::new()];
-        for mark in &marks {
-            let mut desk = self.desk()?;
-            place::write(&self.place.lock(), lock.as_bytes())?;
-            place::write(&heir, mark.as_bytes())?;
+        let lock = format!("{} {boot}", dead_process()?);
+        let marks = [
+            (
+                "another dead process",
+                format!("{} {boot}", dead_process()?),
+            ),
+            ("nothing", String::new()),
+            // The number of a dead process is given to another in time, and the heir may have had the same.
+            ("the same as the lock", lock.clone()),
+        ];
+        for (what, mark) in &marks {
+            let mut desk = self.inherited(&lock, mark)?;
             self.serves(&mut desk)
-                .map_err(|reason| format!("an heir that left {mark:?}: {reason}"))?;
+                .map_err(|reason| format!("an heir's file with {what}: {reason}"))?;
         }
         let own = process::id();
+        let desk = self.inherited(&lock, &format!("{own} {boot}"))?;
+        self.refuses_beside(&desk, own, &["state", HEIR, "state.lock"])
+            .map_err(|reason| format!("an heir that runs: {reason}"))?;
+        Ok(marks.len() + 1)
+    }
+
+    /// A fresh state with a lock and the file of the first heir.
+    fn inherited(&self, lock: &str, mark: &str) -> Tried<Desk> {
         let desk = self.desk()?;
         place::write(&self.place.lock(), lock.as_bytes())?;
-        place::write(&heir, format!("{own} {boot}").as_bytes())?;
-        self.refuses_beside(&desk, own, &["state", &name, "state.lock"])?;
-        Ok(marks.len() + 1)
+        place::write(&self.place.folder.join(HEIR), mark.as_bytes())?;
+        Ok(desk)
     }
 
     /// The lock is taken away, and what its process had written beside the state.
@@ -227,33 +298,9 @@ impl Shared<'_> {
         if let Some(text) = lock {
             place::write(&self.place.lock(), text.as_bytes())?;
         }
-        let mut crowd = self.serve_at_once()?;
-        let deadline = Instant::now() + AT_ONCE;
-        let mut refused = Vec::new();
-        while crowd.len() > 1 {
-            let mut place = 0;
-            while place < crowd.len() {
-                if crowd[place].has_ended()? {
-                    refused.push(crowd.remove(place).finish()?);
-                } else {
-                    place += 1;
-                }
-            }
-            if Instant::now() > deadline {
-                return Err(format!("{} of {CROWD} serve", crowd.len()));
-            }
-            thread::sleep(Duration::from_micros(200));
-        }
-        let Some(mut first) = crowd.pop() else {
-            return Err("none of them serves".to_string());
-        };
-        for ended in &refused {
-            // At a lock that is just being taken away there may be nobody to name yet.
-            let words = match lock {
-                None => format!("in use by process {}", first.process()),
-                Some(_) => "cartlozenge: ".to_string(),
-            };
-            check_stopped(ended, &words)?;
+        let (mut first, late) = await_first(self.serve_at_once()?)?;
+        for ended in &late {
+            check_late(ended, first.process(), lock.is_some())?;
         }
         let came = first.next_answer()?;
         let expected = desk.answer(&showing_line(self.role)).text;
@@ -278,10 +325,13 @@ impl Shared<'_> {
             .start(&words, Stdio::piped(), Stdio::from(writer))?;
         running.say(&changing_line(&desk));
         let deadline = Instant::now() + AT_ONCE;
-        while !running.has_ended()? && Instant::now() < deadline {
+        while !running.has_ended()? {
+            if Instant::now() > deadline {
+                running.kill()?;
+                return Err(format!("it had not ended after {AT_ONCE:?}"));
+            }
             thread::sleep(Duration::from_micros(200));
         }
-        running.kill()?;
         desk.answer(&changing_line(&desk));
         self.place.check_state(&desk.state)?;
         self.serves(&mut desk)

@@ -1,14 +1,13 @@
 //! Random lines of a small world: a few accounts, so that votes, repeats, confirmations and most refusals come up often.
 
 use crate::chance::Chance;
-use crate::desk::{Desk, Role};
+use crate::desk::{record_place, Desk, Role, LIMIT};
 use crate::messages;
 use crate::spelling::{self, Word};
 use second::{Funding, Payment};
 
 const ACCOUNTS: [u64; 5] = [0, 2, 7, 31, 63];
 const HIGHEST_AMOUNT: u64 = 1_000_000_000;
-const LIMIT: i64 = 1_000_000_000_000_000;
 
 /// Lines that fit what the second program makes of those before them.
 pub fn random_lines(chance: &mut Chance, desk: &Desk, count: usize) -> Vec<Vec<u8>> {
@@ -78,7 +77,7 @@ pub fn late(role: Role, f: u64) -> Vec<u8> {
 
 /// Puts an account in use, with nothing pending.
 fn put_record(state: &mut [u8], account: usize, next: u16, balance: i64) {
-    let place = 8 + 72 * account;
+    let place = record_place(account);
     state[place] = 1;
     state[place + 2..place + 4].copy_from_slice(&next.to_be_bytes());
     state[place + 4..place + 12].copy_from_slice(&balance.to_be_bytes());

@@ -72,7 +72,10 @@ pub fn confirmation(confirmation: Confirmation) -> String {
     match confirmation {
         Confirmation::Confirmed(votes) => format!("confirmed by {}", machines(votes)),
         Confirmation::Already(votes) => {
-            format!("already: this sequence was confirmed before; votes of {}", machines(votes))
+            format!(
+                "already: this sequence was confirmed before; votes of {}",
+                machines(votes)
+            )
         }
     }
 }
