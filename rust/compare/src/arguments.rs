@@ -2,13 +2,13 @@
 
 use crate::answers::{Funding, Payment};
 use crate::calls::Compare;
-use crate::chance::Chance;
 use crate::laid::{
     self, HIGHEST_ACCOUNT, HIGHEST_AMOUNT, HIGHEST_INDEX, HIGHEST_SEQUENCE, LEDGER_STATE,
     MACHINE_STATE,
 };
 use crate::pair::Pair;
 use crate::scenes::{NOTE, PAYMENT, TO_LEDGER};
+use chance::Chance;
 
 const NOTHING: Payment = Payment {
     amount: 0,

@@ -3,13 +3,13 @@
 use crate::answers::{Funding, Payment};
 use crate::arguments::each_payment;
 use crate::calls::Compare;
-use crate::chance::Chance;
 use crate::laid::{
     self, HIGHEST_ACCOUNT, HIGHEST_AMOUNT, HIGHEST_BALANCE, HIGHEST_POT, LEDGER_STATE,
     LONGEST_MESSAGE, MACHINE_STATE,
 };
 use crate::pair::Pair;
 use crate::scenes::{self, F, NOTE, PAYMENT, TO_LEDGER};
+use chance::Chance;
 
 pub fn run(compare: &mut Compare, chance: &mut Chance) {
     body_fields(compare, chance);

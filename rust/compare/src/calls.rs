@@ -4,10 +4,10 @@ use crate::answers::{
     ours, theirs, Answer, Certified, Confirmation, Funding, Payment, Payout, Pot, Read, Reading,
     Stretch, Vote,
 };
-use crate::chance::Chance;
 use crate::coverage::Call;
 use crate::pair::Pair;
 use crate::record::{to_read, to_write, Record, PANICKED};
+use chance::Chance;
 use std::panic::{catch_unwind, AssertUnwindSafe};
 
 type OnState<T> = fn(&mut [u8], &[u8], &[u8]) -> Result<T, u8>;

@@ -2,12 +2,12 @@
 
 use crate::answers::{Confirmation, Funding, Payment, Stretch};
 use crate::calls::Compare;
-use crate::chance::Chance;
 use crate::laid::{
     self, HIGHEST_AMOUNT, HIGHEST_BALANCE, HIGHEST_POT, LEDGER_STATE, MACHINE_STATE,
 };
 use crate::pair::Pair;
 use crate::scenes::{F, NOTE, PAYMENT, TO_LEDGER};
+use chance::Chance;
 
 /// A set of faults, numbered by their places in a list of refusals.
 #[derive(Clone, Copy)]

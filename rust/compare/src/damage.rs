@@ -1,10 +1,10 @@
 //! Every small damage to a valid message, through every call that takes it.
 
 use crate::calls::Compare;
-use crate::chance::Chance;
 use crate::laid;
 use crate::pair::Pair;
 use crate::scenes::{self, Scene, F, NOTE, PAYMENT, TO_LEDGER};
+use chance::Chance;
 
 /// Each byte as every other value, each cut at both ends, each byte left out, and every byte put in at each place.
 fn each_damage(message: &[u8], mut visit: impl FnMut(&[u8])) {

@@ -2,9 +2,9 @@
 
 use crate::answers::{Confirmation, Funding, Payment, Read, Vote};
 use crate::calls::Compare;
-use crate::chance::Chance;
 use crate::laid;
 use crate::pair::Pair;
+use chance::Chance;
 
 const E1: [u8; 25] = [
     0x01, 0x00, 0x01, 0x02, 0x02, 0x00, 0x03, 0x00, 0x00, 0x07, 0x03, 0x00, 0x04, 0x00, 0x00, 0x05,

@@ -9,7 +9,6 @@ mod answers;
 mod arguments;
 mod boundaries;
 mod calls;
-mod chance;
 mod checks;
 mod coverage;
 mod damage;

@@ -1,6 +1,6 @@
 //! Bytes lent to both programs, each copy between guards.
 
-use crate::chance::Chance;
+use chance::Chance;
 use std::hint::black_box;
 
 const GUARD: usize = 16;

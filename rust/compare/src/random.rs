@@ -2,7 +2,6 @@
 
 use crate::answers::{Funding, Payment};
 use crate::calls::Compare;
-use crate::chance::Chance;
 use crate::damage::written_again;
 use crate::laid::{
     self, HIGHEST_ACCOUNT, HIGHEST_AMOUNT, HIGHEST_INDEX, HIGHEST_SEQUENCE, LEDGER_STATE,
@@ -10,6 +9,7 @@ use crate::laid::{
 };
 use crate::pair::Pair;
 use crate::scenes;
+use chance::Chance;
 
 const ROUNDS: usize = 300;
 

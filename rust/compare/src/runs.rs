@@ -3,10 +3,10 @@
 
 use crate::answers::{Funding, Payment};
 use crate::calls::Compare;
-use crate::chance::Chance;
 use crate::laid::{self, HIGHEST_AMOUNT, HIGHEST_SEQUENCE};
 use crate::random::damaged;
 use crate::world::{body_of, World};
+use chance::Chance;
 
 const STEPS: usize = 3_000;
 const WORLDS: usize = 5;

@@ -3,10 +3,10 @@
 
 use crate::answers::Payment;
 use crate::calls::Compare;
-use crate::chance::Chance;
 use crate::laid::{self, HIGHEST_BALANCE};
 use crate::pair::Pair;
 use crate::scenes::{self, Scene, F, NOTE, PAYMENT, TO_LEDGER};
+use chance::Chance;
 
 pub fn run(compare: &mut Compare, chance: &mut Chance) {
     let mut scenes = scenes::daily(&[]);

@@ -2,10 +2,10 @@
 
 use crate::answers::Funding;
 use crate::calls::Compare;
-use crate::chance::Chance;
 use crate::laid;
 use crate::pair::Pair;
 use crate::scenes::{self, Scene, NOTE, PAYMENT, TO_LEDGER};
+use chance::Chance;
 
 const BAD_VERDICTS: [u8; 6] = [0, 2, 3, 0x7F, 0x81, 0xFF];
 

@@ -3,10 +3,10 @@
 
 use crate::answers::{Confirmation, Payout, Stretch};
 use crate::calls::Compare;
-use crate::chance::Chance;
 use crate::history::{Broken, History};
 use crate::laid::{self, BODY_PLACE, HIGHEST_AMOUNT};
 use crate::pair::Pair;
+use chance::Chance;
 
 pub struct World {
     pub f: u64,

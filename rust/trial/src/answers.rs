@@ -1,12 +1,12 @@
 //! Long random streams of lines, each fed from a file, through a pipe at once, and through a pipe in pieces.
 
-use crate::chance::Chance;
 use crate::desk::{Desk, Role, ROLES};
 use crate::place::{self, Place};
 use crate::program::{in_pieces, whole, Ended};
 use crate::streams::{joined, late, random_lines};
 use crate::tally::Tally;
 use crate::trial::{check_answers, check_quiet, Trial, Tried};
+use chance::Chance;
 use std::fs::File;
 
 const LINES: usize = 700;

@@ -1,6 +1,5 @@
 //! State files that are none. What the program refuses it must leave alone, byte for byte and with nothing beside it.
 
-use crate::chance::Chance;
 use crate::desk::{record_place, Desk, Role, LIMIT, MACHINE_HEADER_LENGTH, RECORD_LENGTH, ROLES};
 use crate::fresh;
 use crate::messages;
@@ -8,6 +7,7 @@ use crate::place::Place;
 use crate::program::{whole, Ended};
 use crate::streams::random_lines;
 use crate::trial::{check_answers, check_stopped, side_by_side, Trial, Tried};
+use chance::Chance;
 use second::Payment;
 use std::sync::atomic::{AtomicBool, Ordering};
 

@@ -1,7 +1,6 @@
 //! The program is killed at random times, and what it leaves is held against what it had printed. Then it is started again on the same
 //! files, killed once more or left to answer the rest.
 
-use crate::chance::Chance;
 use crate::desk::{Desk, Reply, Role, ROLES};
 use crate::place::Place;
 use crate::program::{join, whole, Ended, Piece};
@@ -9,6 +8,7 @@ use crate::streams::{joined, random_lines};
 use crate::trial::{
     answer_lines, check_answers, check_prefix, check_quiet, side_by_side, Trial, Tried,
 };
+use chance::Chance;
 use std::os::unix::process::ExitStatusExt;
 use std::sync::atomic::{AtomicBool, Ordering};
 use std::thread;

@@ -1,12 +1,12 @@
 //! Lines of every length, inputs that end anywhere, and noise. Behind each stands a good line, which must be answered rightly.
 
-use crate::chance::Chance;
 use crate::desk::{Desk, Role, ROLES};
 use crate::place::Place;
 use crate::program::{in_pieces, whole, Piece};
 use crate::streams::{changing_line, joined, random_lines, showing_line};
 use crate::trial::{answer_lines, check_answers, check_quiet, serves, Trial, Tried};
 use crate::words::LONGEST_LINE;
+use chance::Chance;
 
 const MEGABYTE: usize = 1_000_000;
 

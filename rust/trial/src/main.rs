@@ -6,7 +6,6 @@
 #![forbid(unsafe_code)]
 
 mod answers;
-mod chance;
 mod desk;
 mod files;
 mod fresh;

@@ -1,9 +1,9 @@
 //! Runs of the program: started, fed, listened to, and waited for or killed.
 
-use crate::chance::Chance;
 use crate::desk::Role;
 use crate::place::Place;
 use crate::trial::Tried;
+use chance::Chance;
 use std::ffi::OsStr;
 use std::fs::File;
 use std::io::{Read, Write};

@@ -1,8 +1,8 @@
 //! How a line is spelled: with more blanks than one, digits of either case, leading zeros. And how it is spelled wrongly.
 
-use crate::chance::Chance;
 use crate::messages::hexadecimal;
 use crate::words::LONGEST_LINE;
+use chance::Chance;
 
 pub enum Word {
     Bytes(Vec<u8>),

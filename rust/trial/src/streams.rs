@@ -1,9 +1,9 @@
 //! Random lines of a small world: a few accounts, so that votes, repeats, confirmations and most refusals come up often.
 
-use crate::chance::Chance;
 use crate::desk::{record_place, Desk, Role, LIMIT};
 use crate::messages;
 use crate::spelling::{self, Word};
+use chance::Chance;
 use second::{Funding, Payment};
 
 const ACCOUNTS: [u64; 5] = [0, 2, 7, 31, 63];

@@ -1,10 +1,10 @@
 //! What every part works with, and how answers are compared.
 
-use crate::chance::Chance;
 use crate::desk::{Desk, Reply};
 use crate::place::Place;
 use crate::program::{whole, Ended, Program, Running};
 use crate::streams::{changing_line, joined, showing_line};
+use chance::Chance;
 use std::path::PathBuf;
 use std::sync::atomic::{AtomicBool, Ordering};
 use std::thread;

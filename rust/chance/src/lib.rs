@@ -44,6 +44,7 @@ impl Chance {
         bytes
     }
 
+    /// One of a list that is not empty.
     pub fn pick<'a, T>(&mut self, list: &'a [T]) -> &'a T {
         &list[self.below(list.len())]
     }
