@@ -11,7 +11,7 @@ use Rattle.wire.specs.Numbers.{isAccount, isAmount, isSequence}
 use Rattle.wire.specs.Messages.{payment, inside}
 use Rattle.wire.specs.Readers.{judgedBy}
 use Rattle.wire.specs.Refusals.{Said}
-use Rattle.wire.proofs.FieldLaws.{both}
+use Rattle.octets.proofs.TestLaws.{both}
 use Rattle.wire.proofs.Ranges.{amount-most}
 use Rattle.states.specs.Headers.{lastIndex, withIndex}
 use Rattle.states.specs.Outcomes.{Outcome}

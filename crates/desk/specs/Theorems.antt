@@ -14,7 +14,8 @@ use lib.IntN.{ℤ, pos}
 use Rattle.octets.specs.Octets.{two, number, same}
 use Rattle.octets.proofs.Laws.{put-all}
 use Rattle.wire.specs.Numbers.{isFaults, isMachine, isAccount, isAmount, isSequence, isNote}
-use Rattle.wire.specs.Fields.{need, size, laid}
+use Rattle.octets.specs.Tests.{need}
+use Rattle.wire.specs.Fields.{size, laid}
 use Rattle.wire.specs.Messages.{bodyFields, orderFields, certificateFields, payment, isPayment, inside, bodyBytes, orderBytes, funding, isFunding, fundingBytes, fundingFields}
 use Rattle.wire.specs.Votes.{votes, signersIn, signersOf, known, rising, good, certificateBytes}
 use Rattle.wire.specs.Refusals.{Said, gives, refuses}
@@ -24,7 +25,7 @@ use Rattle.wire.specs.Writers.{Written, writes, writeBody, writeOrder, writeFun
 use Rattle.wire.specs.declared.answers.Stretch.{Stretch}
 use Rattle.wire.specs.declared.kinds.Payment.{Payment}
 use Rattle.wire.specs.declared.kinds.Funding.{Funding}
-use Rattle.wire.proofs.FieldLaws.{both}
+use Rattle.octets.proofs.TestLaws.{both}
 use Rattle.wire.proofs.Laid.{order-laid, certificate-laid}
 use Rattle.writing.proofs.Written.{length-body, length-order, length-funding, payment-fits}
 use Rattle.states.specs.Headers.{lastIndex}

@@ -8,7 +8,8 @@ use lib.ListN.{length}
 use borrow.Author.Tests.{not-true, not-false}
 use Rattle.octets.specs.Octets.{one, two, number, cut}
 use Rattle.wire.specs.Numbers.{isFaults}
-use Rattle.wire.specs.Fields.{need, laid}
+use Rattle.octets.specs.Tests.{need}
+use Rattle.wire.specs.Fields.{laid}
 use Rattle.wire.specs.Messages.{inside, certificateFields}
 use Rattle.wire.specs.Votes.{votes}
 use Rattle.wire.specs.Refusals.{gives}

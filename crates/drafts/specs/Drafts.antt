@@ -6,7 +6,7 @@ use lib.ListN.{replicate}
 use lib.Dec.{eqb}
 use Rattle.octets.specs.Octets.{one, number, same}
 use Rattle.wire.specs.Numbers.{isFaults}
-use Rattle.wire.specs.Fields.{need}
+use Rattle.octets.specs.Tests.{need}
 use Rattle.wire.specs.Messages.{inside}
 use Rattle.wire.specs.Votes.{signersIn}
 use Rattle.wire.specs.Readers.{readBody, readOrder, readCertificate, readFunding}

@@ -19,7 +19,7 @@ use Rattle.wire.specs.Messages.{fundingBytes}
 use Rattle.wire.specs.Votes.{certificateBytes}
 use Rattle.wire.specs.Refusals.{Said, refuses}
 use Rattle.wire.specs.declared.kinds.Payment.{Payment}
-use Rattle.wire.proofs.FieldLaws.{both}
+use Rattle.octets.proofs.TestLaws.{both}
 use Rattle.records.specs.Answers.{already}
 use Rattle.safety.specs.Runs.{Call, Moment, start, answer, after}
 use Rattle.safety.specs.Demand3.{takes, brings, Safe}

@@ -16,7 +16,7 @@ use Rattle.wire.specs.Fields as fields
 use Rattle.wire.specs.Messages.{certificateFields, fundingFields, payment, isPayment, bodyBytes, inside, orderBytes, funding, isFunding, fundingBytes}
 use Rattle.wire.specs.Votes.{signers, signersIn, known, risingFrom, good, voteFields, certificateBytes}
 use Rattle.wire.specs.Readers.{readPayment, readFunding, judgedBy}
-use Rattle.wire.proofs.FieldLaws.{both}
+use Rattle.octets.proofs.TestLaws.{both}
 use Rattle.records.specs.Records.{recordAt, headBytes, recordBytes, isPending, inRange, isRecord, holding, paid, credited}
 use Rattle.records.specs.States as machine
 use Rattle.records.specs.Calls as on-machine

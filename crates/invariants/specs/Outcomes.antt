@@ -9,14 +9,15 @@ use lib.Dec.{leb, ltb, eqb, eqb·suc-zero, lit<}
 use borrow.Author.Tests.{leb-true, ltb-true, ltb-false, eqb-true, eqb-false, eq-eqb}
 use Rattle.octets.specs.Octets.{same}
 use Rattle.wire.specs.Numbers.{isFaults, isMachine}
-use Rattle.wire.specs.Fields.{need, laid}
+use Rattle.octets.specs.Tests.{need}
+use Rattle.wire.specs.Fields.{laid}
 use Rattle.wire.specs.Messages.{bodyFields, orderFields, certificateFields, fundingFields, payment, inside, isPayment, funding, isFunding}
 use Rattle.wire.specs.Votes.{Committee, votes, signersIn, known, rising, good}
 use Rattle.wire.specs.Refusals.{Said, refuses}
 use Rattle.wire.specs.Readers.{isBody, readPayment, readOrderPayment, readFunding, judgedBy}
 use Rattle.wire.specs.declared.kinds.Payment.{Payment}
 use Rattle.wire.specs.declared.kinds.Funding.{Funding}
-use Rattle.wire.proofs.FieldLaws.{both}
+use Rattle.octets.proofs.TestLaws.{both}
 use Rattle.roundtrip.specs.Answers.{through, said}
 use Rattle.roundtrip.specs.VoteLaws.{length-signers}
 use Rattle.wire.proofs.Ranges.{PaymentRange, payment-range, FundingRange, funding-range}

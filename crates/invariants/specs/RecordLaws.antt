@@ -17,7 +17,8 @@ use Rattle.octets.specs.Octets.{one, two, eight, number, bytes, cut, put, allZe
 use Rattle.octets.proofs.Laws.{length-put, number-bytes, number-lt, cut-put, cut-put-out}
 use Rattle.wire.specs.Messages.{payment}
 use Rattle.wire.specs.Readers.{isBody, held}
-use Rattle.wire.proofs.FieldLaws.{Bytes, both, bytes-number, bytes-cut, cut-join, length-cut}
+use Rattle.octets.proofs.TestLaws.{both}
+use Rattle.wire.proofs.FieldLaws.{Bytes, bytes-number, bytes-cut, cut-join, length-cut}
 use Rattle.wire.proofs.Laid.{body-laid}
 use Rattle.records.specs.declared.record.Record.{Record}
 use Rattle.records.specs.Balances.{nought, highest, lift, lower, signed}

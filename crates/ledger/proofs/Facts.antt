@@ -17,7 +17,7 @@ use Rattle.wire.specs.Refusals.{Said}
 use Rattle.wire.specs.Writers.{written, writes, writeFunding}
 use Rattle.wire.specs.declared.kinds.Funding.{Funding}
 use Rattle.wire.specs.declared.answers.WriteAnswer.{WriteAnswer}
-use Rattle.wire.proofs.FieldLaws.{both}
+use Rattle.octets.proofs.TestLaws.{both}
 use Rattle.writing.proofs.Written.{length-funding}
 use Rattle.states.specs.Headers.{faultsIn}
 use Rattle.ledger.specs.States.{Rules, base, stateLength, isState, isBaseHeader, pot, isPot, value}

@@ -6,7 +6,7 @@ use lib.ListN.{length}
 use lib.Dec.{leb, ltb, eqb}
 use Rattle.octets.specs.Octets.{put}
 use Rattle.wire.specs.Numbers.{isFaults, isAccount, isAmount, isSequence}
-use Rattle.wire.specs.Fields.{need}
+use Rattle.octets.specs.Tests.{need}
 use Rattle.wire.specs.Messages.{payment, inside, fundingBytes}
 use Rattle.wire.specs.Readers.{judgedBy}
 use Rattle.wire.specs.Refusals.{Said, refuses}

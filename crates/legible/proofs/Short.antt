@@ -11,11 +11,12 @@ use borrow.Author.Tests.{leb-true, ltb-true}
 use Rattle.octets.specs.Octets.{two, eight, cut, same}
 use Rattle.octets.proofs.Laws.{length-put, number-lt}
 use Rattle.wire.specs.Numbers.{isAccount, isAmount}
-use Rattle.wire.specs.Fields.{need, laid}
+use Rattle.octets.specs.Tests.{need}
+use Rattle.wire.specs.Fields.{laid}
 use Rattle.wire.specs.Messages.{inside, payment, orderFields}
 use Rattle.wire.specs.Readers.{isBody, isOrder}
 use Rattle.wire.specs.Refusals.{Said}
-use Rattle.wire.proofs.FieldLaws.{both}
+use Rattle.octets.proofs.TestLaws.{both}
 use Rattle.wire.proofs.Laid.{order-laid}
 use Rattle.states.specs.Headers.{lastIndex}
 use Rattle.records.specs.Answers.{AccountShown, unshown}

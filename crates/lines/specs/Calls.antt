@@ -5,7 +5,7 @@ use mathlib.Core.List.{List}
 use lib.ListN.{length, replicate}
 use lib.Dec.{ltb}
 use Rattle.octets.specs.Octets.{same}
-use Rattle.wire.specs.Fields.{need}
+use Rattle.octets.specs.Tests.{need}
 use Rattle.wire.specs.Refusals.{Said}
 use Rattle.states.specs.Outcomes.{Outcome}
 use Rattle.records.specs.States as records

@@ -4,7 +4,7 @@ use mathlib.Core.Bool.{Bool, cond}
 use mathlib.Core.List.{List, _++_}
 use lib.ListN.{length, take, drop}
 use lib.Dec.{leb, ltb}
-use Rattle.wire.specs.Fields.{need}
+use Rattle.octets.specs.Tests.{need}
 use Rattle.text.specs.Ascii.{ascii}
 use Rattle.text.specs.Pages.{Page, said}
 use Rattle.text.specs.Words.{isLine, lineEnd}

@@ -7,11 +7,13 @@ use native.Mathlib.Omega.{arith}
 use lib.ListN.{length, getD}
 use lib.Dec.{eqb, ltb, lit<}
 use Rattle.octets.specs.Octets.{one, two, number, cut}
-use Rattle.wire.specs.Fields.{need, laid}
+use Rattle.octets.specs.Tests.{need}
+use Rattle.wire.specs.Fields.{laid}
 use Rattle.wire.specs.Messages.{payment, isPayment, bodyFields, orderFields, inside}
 use Rattle.wire.specs.Refusals.{Said}
 use Rattle.wire.specs.Readers.{isBody, isOrder}
-use Rattle.wire.proofs.FieldLaws.{both, length-cut}
+use Rattle.octets.proofs.TestLaws.{both}
+use Rattle.wire.proofs.FieldLaws.{length-cut}
 use Rattle.wire.proofs.Laid.{order-laid}
 use Rattle.wire.proofs.Ranges.{payment-range}
 use Rattle.records.specs.Answers.{inMessage, inState}

@@ -7,7 +7,8 @@ use native.Mathlib.Omega.{arith}
 use lib.ListN.{length, take, drop}
 use lib.Dec.{leb, ltb}
 use Rattle.octets.specs.Octets.{two, number, cut}
-use Rattle.wire.specs.Fields.{need, lost, wantAll, size, laid}
+use Rattle.octets.specs.Tests.{need}
+use Rattle.wire.specs.Fields.{lost, wantAll, size, laid}
 use Rattle.wire.specs.Messages.{bodyFields, payment, isPayment, orderFields, certificateFields, inside}
 use Rattle.wire.specs.Votes.{known, rising, votes}
 use Rattle.wire.specs.Refusals.{Said, gives, refuses, paymentValues}

@@ -4,7 +4,8 @@ use mathlib.Core.Path.{_≡_, refl}
 use mathlib.Core.Bool.{Bool, true, false, _||_}
 use mathlib.Core.List.{List, []}
 use Rattle.octets.specs.Octets.{cut}
-use Rattle.wire.specs.Fields.{need, size, laid}
+use Rattle.octets.specs.Tests.{need}
+use Rattle.wire.specs.Fields.{size, laid}
 use Rattle.wire.specs.Messages.{orderFields, certificateFields, inside}
 use Rattle.wire.specs.Readers.{isBody, covered, nowhere, coveredAt}
 use Rattle.wire.specs.declared.answers.Stretch.{Stretch}

@@ -10,7 +10,7 @@ use lib.ListN.{length, replicate, length-append}
 use Rattle.octets.specs.Octets.{one, number, bytes, put}
 use Rattle.octets.proofs.Laws.{length-bytes}
 use Rattle.wire.specs.Numbers.{isFaults}
-use Rattle.wire.proofs.FieldLaws.{both}
+use Rattle.octets.proofs.TestLaws.{both}
 use Rattle.states.specs.Headers.{freshBytes}
 use Rattle.records.specs.Balances.{highest}
 use Rattle.records.specs.Records.{headBytes, inRange, isRecord, recordAt, Fits, holding, paid, credited}

@@ -8,7 +8,7 @@ use lib.ListN.{length}
 use lib.Dec.{leb, ltb, eqb}
 use Rattle.octets.specs.Octets.{two, number, same}
 use Rattle.wire.specs.Numbers.{isMachine, isAccount}
-use Rattle.wire.specs.Fields.{need}
+use Rattle.octets.specs.Tests.{need}
 use Rattle.wire.specs.Messages.{payment, inside, funding}
 use Rattle.wire.specs.Votes.{signersIn, good}
 use Rattle.wire.specs.Refusals.{Said, gives}

@@ -3,7 +3,7 @@ use Prim.Native.Nat.{ℕ, _-_}
 use mathlib.Core.List.{List, [], _∷_, _++_}
 use lib.ListN.{getD}
 use lib.Dec.{eqb}
-use Rattle.wire.specs.Fields.{need}
+use Rattle.octets.specs.Tests.{need}
 use Rattle.wire.specs.Refusals.{Said}
 use Rattle.text.specs.Ascii.{ascii}
 use Rattle.text.specs.Pages.{decimal}

@@ -8,7 +8,7 @@ use lib.ListN.{length, getD}
 use lib.Dec.{leb, lit<}
 use borrow.Author.Tests.{leb-true}
 use Rattle.octets.specs.Octets.{put}
-use Rattle.wire.specs.Fields.{need}
+use Rattle.octets.specs.Tests.{need}
 use Rattle.wire.specs.Refusals.{Said, gives}
 use Rattle.wire.specs.Writers.{Written, unwritten, writes}
 use Rattle.writing.proofs.Written.{writes-room}

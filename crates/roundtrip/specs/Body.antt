@@ -16,7 +16,8 @@ use Rattle.wire.specs.Refusals.{gives, refuses, paymentValues}
 use Rattle.wire.specs.Readers.{readPayment, readBody, isBody, noteHeld}
 use Rattle.wire.specs.Writers.{unwritten, writeBody}
 use Rattle.wire.specs.declared.kinds.Payment.{Payment}
-use Rattle.wire.proofs.FieldLaws.{Bytes, ends-laid, both, number-written, bytes-number, cut-join, drop-field, drop-sized, ends-sized, ends-last}
+use Rattle.octets.proofs.TestLaws.{both}
+use Rattle.wire.proofs.FieldLaws.{Bytes, ends-laid, number-written, bytes-number, cut-join, drop-field, drop-sized, ends-sized, ends-last}
 use Rattle.wire.proofs.Laid.{BodyLaid, body-laid, note-fits}
 use Rattle.writing.proofs.Written.{length-body, PaymentFits, payment-fits}
 use Rattle.messages.proofs.Told.{payment-same}

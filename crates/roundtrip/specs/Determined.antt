@@ -5,7 +5,8 @@ use mathlib.Core.Path.{_≡_, refl, sym, ap, _∙_}
 use mathlib.Core.Bool.{Bool}
 use mathlib.Core.List.{List, [], _∷_}
 use lib.ListN.{getD, drop}
-use Rattle.wire.specs.Fields.{need, Want, lost, size, laid}
+use Rattle.octets.specs.Tests.{need}
+use Rattle.wire.specs.Fields.{Want, lost, size, laid}
 use Rattle.wire.specs.Messages.{bodyFields, orderFields, certificateFields, fundingFields}
 use Rattle.wire.specs.Refusals.{Said, refusalNumber, bodySaid, fundingSaid, certificateSaid, writeSaid}
 use Rattle.wire.specs.Readers as readers

@@ -17,7 +17,8 @@ use Rattle.wire.specs.Refusals.{gives, refuses, paymentValues}
 use Rattle.wire.specs.Readers.{isBody, readPayment, readOrderPayment, readOrder, noteHeld}
 use Rattle.wire.specs.Writers.{unwritten, writeOrder}
 use Rattle.wire.specs.declared.kinds.Payment.{Payment}
-use Rattle.wire.proofs.FieldLaws.{Bytes, length-field, size-written, ends-laid, both, drop-field, ends-field, ends-last, cut-written, bytes-cut}
+use Rattle.octets.proofs.TestLaws.{both}
+use Rattle.wire.proofs.FieldLaws.{Bytes, length-field, size-written, ends-laid, drop-field, ends-field, ends-last, cut-written, bytes-cut}
 use Rattle.wire.proofs.Laid.{note-fits, OrderLaid, order-laid, signature-fits}
 use Rattle.writing.proofs.Written.{lengths, length-body, length-order, payment-fits}
 use Rattle.roundtrip.specs.Answers.{through, said, told, wrote, Wrote, has-room, comes-to-write}

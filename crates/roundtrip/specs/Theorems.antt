@@ -19,7 +19,8 @@ use Rattle.wire.specs.Writers.{Written, writeBody, writeOrder, writeFunding, wr
 use Rattle.wire.specs.declared.kinds.Note.{Note}
 use Rattle.wire.specs.declared.kinds.Payment.{Payment}
 use Rattle.wire.specs.declared.kinds.Funding.{Funding}
-use Rattle.wire.proofs.FieldLaws.{Bytes, both}
+use Rattle.octets.proofs.TestLaws.{both}
+use Rattle.wire.proofs.FieldLaws.{Bytes}
 use Rattle.wire.proofs.Laid.{note-fits, signature-fits}
 use Rattle.writing.proofs.Written.{length-body, length-order, length-funding}
 use Rattle.roundtrip.specs.Answers.{said, told, Wrote, wrote-size}

@@ -10,7 +10,7 @@ use lib.Dec.{leb}
 use borrow.Author.Tests.{leb-true}
 use Rattle.model.specs.Lists.{In, Distinct}
 use Rattle.wire.specs.Votes.{known, risingFrom, rising}
-use Rattle.wire.proofs.FieldLaws.{both}
+use Rattle.octets.proofs.TestLaws.{both}
 
 -- numbers that rise from `least` are at least that
 rising-least : (ks : List ℕ) (least k : ℕ) → risingFrom least ks ≡ true → In k ks → least ≤ k

@@ -17,7 +17,7 @@ use Rattle.model.proofs.Safety.{good-certificate}
 use Rattle.wire.specs.Messages.{inside}
 use Rattle.wire.specs.Votes as wire
 use Rattle.wire.specs.Readers.{judgedBy}
-use Rattle.wire.proofs.FieldLaws.{both}
+use Rattle.octets.proofs.TestLaws.{both}
 use Rattle.roundtrip.specs.Voters.{rising-distinct, known-most}
 use Rattle.invariants.specs.Outcomes.{Judged, judged}
 use Rattle.safety.specs.Runs.{Moment}

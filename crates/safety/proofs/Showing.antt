@@ -21,7 +21,7 @@ use Rattle.wire.specs.Fields.{laid}
 use Rattle.wire.specs.Messages.{fundingFields, payment, inside, funding}
 use Rattle.wire.specs.Votes.{good}
 use Rattle.wire.specs.Readers.{isBody, judgedBy}
-use Rattle.wire.proofs.FieldLaws.{both}
+use Rattle.octets.proofs.TestLaws.{both}
 use Rattle.wire.proofs.Laid.{body-laid}
 use Rattle.states.specs.Headers.{lastIndex, withIndex}
 use Rattle.records.specs.declared.record.Record.{Record}

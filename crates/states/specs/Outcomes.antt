@@ -2,7 +2,7 @@
 use Prim.Native.Nat.{ℕ}
 use mathlib.Core.List.{List, []}
 use lib.Dec.{eqb}
-use Rattle.wire.specs.Fields.{need}
+use Rattle.octets.specs.Tests.{need}
 use Rattle.wire.specs.Refusals.{Said, gives, refuses, refusalNumber}
 use Rattle.states.specs.declared.answers.FreshAnswer.{FreshAnswer}
 

@@ -11,7 +11,7 @@ use lib.Dec.{ltb}
 use borrow.Author.Tests.{not-false, leb-true, ltb-true, eqb-true, lt-ltb, le-ltb, le-leb, lt-leb, eq-eqb, ne-eqb}
 use Rattle.octets.specs.Octets.{number, one, cut, put, bytes}
 use Rattle.octets.proofs.Laws.{put-append, length-put, cut-put}
-use Rattle.wire.proofs.FieldLaws.{both}
+use Rattle.octets.proofs.TestLaws.{both}
 use Rattle.text.specs.Words.{isKind, leading, behindWord, wordAt, worth, noNumber, numberOf, nibble, areDigits, unhexed, isStroke, isBytes, isLine, lineEnd}
 
 -- what is left from i on is the byte there, and what is left behind it

@@ -15,7 +15,7 @@ use lib.Count.{ones, ones-cat}
 use borrow.Author.Tests.{leb-true, le-leb, lt-leb, eq-eqb, ne-eqb}
 use Rattle.octets.specs.Octets.{one, number}
 use Rattle.wire.specs.Votes.{signers, known, rising, risingFrom, good}
-use Rattle.wire.specs.Fields.{need}
+use Rattle.octets.specs.Tests.{need}
 use Rattle.wire.specs.Refusals.{refuses}
 use Rattle.votes.specs.Tally.{Tallied, counted, AllSigned, enough, votesJudged, votesGiven}
 use Rattle.votes.specs.declared.Tally.{Tally}

@@ -7,7 +7,7 @@ use lib.ListN.{length}
 use lib.Dec.{leb}
 use lib.Bits.{bitOr}
 use lib.Count.{ones}
-use Rattle.wire.specs.Fields.{need}
+use Rattle.octets.specs.Tests.{need}
 use Rattle.wire.specs.Votes.{known, rising, good}
 use Rattle.wire.specs.Refusals.{Said, gives, refuses, refusalNumber}
 use Rattle.votes.specs.declared.Tally.{Tally}

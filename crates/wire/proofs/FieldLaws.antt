@@ -9,9 +9,11 @@ use lib.Dec.{leb, eqb, lit<}
 use lib.Seq.{take-add, drop-drop, take-at, drop-at, getD-drop, getD-append-add}
 use borrow.Author.Tests.{leb-true, eqb-true, eqb-false, le-leb, lt-leb, eq-eqb, ne-eqb}
 use Rattle.octets.specs.Octets.{one, two, span, number, bytes, cut}
+use Rattle.octets.proofs.TestLaws.{both}
 use Rattle.octets.proofs.Laws.{length-bytes, number-bytes, put-number, cut-put}
 use Rattle.wire.specs.Numbers.{isMessage}
-use Rattle.wire.specs.Fields.{need, field, Want, want, lost, size, past, pastAll, after, ends, laid}
+use Rattle.octets.specs.Tests.{need}
+use Rattle.wire.specs.Fields.{field, Want, want, lost, size, past, pastAll, after, ends, laid}
 
 -- every element is a byte
 abbrev pub Bytes : List ℕ → Type 0
@@ -130,11 +132,6 @@ drop-field m at tag least most n next b p e f =
 -- the same of a field whose value has n bytes
 pub drop-sized : (m : List ℕ) (at tag n next : ℕ) → Bytes m → Passed m at tag n n → at + 3 + n ≡ next → drop at m ≡ field tag (cut m (at + 3) n) ++ drop next m
 drop-sized m at tag n next b p f = drop-field m at tag n n n next b p (omega arith) f
-
--- where two tests hold together each holds
-pub both : (a b : Bool) → (a && b) ≡ true → (a ≡ true) × (b ≡ true)
-both true b h = (refl, h)
-both false b h = (h, cc)
 
 -- a message with its fields is not too long, and the fields end where it ends
 pub laid-ends : (m : List ℕ) (fields : List Want) → laid m fields ≡ true → (length m ≤ 1148) × (ends m 0 fields ≡ length m)

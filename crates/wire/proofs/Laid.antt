@@ -10,7 +10,8 @@ use lib.Dec.{eqb}
 use borrow.Author.Tests.{eqb-true, le-leb}
 use Rattle.octets.specs.Octets.{two, number}
 use Rattle.wire.specs.Numbers.{isNote}
-use Rattle.wire.specs.Fields.{need, Want, want, lost, wantAll, size, past, pastAll, after, ends, laid}
+use Rattle.octets.specs.Tests.{need}
+use Rattle.wire.specs.Fields.{Want, want, lost, wantAll, size, past, pastAll, after, ends, laid}
 use Rattle.wire.specs.Messages.{bodyFields, noteIn, orderFields, signatureIn, certificateFields, fundingFields}
 use Rattle.wire.specs.Votes.{votes}
 use Rattle.wire.proofs.FieldLaws.{Passed, passed, first-field, first-sized, last-field, laid-ends, length-cut, all-lost}

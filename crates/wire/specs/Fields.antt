@@ -7,13 +7,9 @@ use lib.ListN.{length}
 use lib.Dec.{leb, eqb}
 use denote.Ref.{RefT}
 use Rattle.octets.specs.Octets.{one, two, number, bytes}
+use Rattle.octets.specs.Tests.{need}
 use Rattle.wire.specs.Numbers.{isMessage}
 use Rattle.wire.specs.declared.fields.Reader.{Reader}
-
--- what follows where a test holds; what stands before it where the test fails
-abbrev pub need {ℓ} : {A : Type ℓ} → Bool → A → A → A
-need true failed rest = rest
-need false failed rest = failed
 
 -- the bytes of a field
 abbrev pub field : ℕ → List ℕ → List ℕ

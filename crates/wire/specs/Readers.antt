@@ -6,7 +6,8 @@ use lib.ListN.{length, take, replicate}
 use lib.Dec.{eqb}
 use Rattle.octets.specs.Octets.{put}
 use Rattle.wire.specs.Numbers.{isFaults}
-use Rattle.wire.specs.Fields.{need, size, laid}
+use Rattle.octets.specs.Tests.{need}
+use Rattle.wire.specs.Fields.{size, laid}
 use Rattle.wire.specs.Messages.{bodyFields, payment, isPayment, noteIn, orderFields, certificateFields, inside, signatureIn, fundingFields, funding, isFunding}
 use Rattle.wire.specs.Votes.{Committee, committee, votes, signersIn, known, rising, good}
 use Rattle.wire.specs.Refusals.{Said, gives, refuses, paymentValues, fundingValues, bodySaid}

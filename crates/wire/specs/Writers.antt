@@ -5,7 +5,8 @@ use lib.ListN.{length}
 use lib.Dec.{leb, eqb}
 use Rattle.octets.specs.Octets.{put}
 use Rattle.wire.specs.Numbers.{isFaults, isNote}
-use Rattle.wire.specs.Fields.{need, laid}
+use Rattle.octets.specs.Tests.{need}
+use Rattle.wire.specs.Fields.{laid}
 use Rattle.wire.specs.Messages.{bodyFields, payment, isPayment, bodyBytes, orderBytes, isFunding, fundingBytes}
 use Rattle.wire.specs.Votes.{Committee, committee, signersOf, known, rising, certificateBytes}
 use Rattle.wire.specs.Refusals.{Said, gives, refuses, writeSaid}

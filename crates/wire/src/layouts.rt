@@ -1,7 +1,8 @@
 // The layout of each message: its fields, read one after another.
 ghost use mathlib.Core.Path.{_≡_};
 ghost use Prim.Native.Nat.{_+_};
-ghost use Rattle.wire.specs.Fields.{need, lost, size, past, ends, laid};
+ghost use Rattle.octets.specs.Tests.{need};
+ghost use Rattle.wire.specs.Fields.{lost, size, past, ends, laid};
 ghost use Rattle.wire.specs.Messages.{bodyFields, orderFields, certificateFields, fundingFields};
 use crate::fields;
 use crate::fields::Reader;

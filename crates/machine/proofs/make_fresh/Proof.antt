@@ -1,6 +1,6 @@
 use Rattle.records.specs.Calls.{fresh}
 use Rattle.states.specs.Outcomes.{outcome, done}
-use Rattle.wire.proofs.FieldLaws.{both}
+use Rattle.octets.proofs.TestLaws.{both}
 use Rattle.wire.specs.Numbers.{isFaults, isMachine}
 use borrow.Author.Tests.{not-true, not-false, eq-eqb, ne-eqb, leb-true}
 use lib.Dec.{leb}

@@ -7,7 +7,7 @@ use Rattle.wire.specs.declared.kinds.Note.{Note}
 use Rattle.wire.specs.Readers.{BodyShown, readPayment, isBody, noteHeld, readBody}
 use Rattle.wire.specs.Refusals.{Said}
 use Rattle.wire.specs.Messages.{noteIn}
-use Rattle.wire.specs.Fields.{need}
+use Rattle.octets.specs.Tests.{need}
 use Rattle.wire.proofs.Laid.{body-laid}
 use Rattle.messages.proofs.Onward.{payment-read, payment-refused}
 use Rattle.messages.proofs.body.read_body.Statement.{statement}

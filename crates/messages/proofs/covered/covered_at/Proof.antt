@@ -11,7 +11,7 @@ use Rattle.wire.specs.Readers.{isBody, coveredAt}
 use Rattle.wire.specs.Messages.{orderFields, certificateFields, inside}
 use Rattle.wire.specs.Fields.{want, wantAll, size, laid}
 use Rattle.wire.proofs.Laid.{enclosed, not-enclosed, body-laid}
-use Rattle.wire.proofs.FieldLaws.{both}
+use Rattle.octets.proofs.TestLaws.{both}
 use Rattle.messages.proofs.covered.covered_at.Statement.{statement}
 use Rattle.messages.proofs.covered.covered_at.Tie as tie
 

@@ -8,7 +8,7 @@ use Rattle.wire.specs.declared.kinds.Note.{Note}
 use Rattle.wire.specs.Readers.{OrderShown, readOrderPayment, isOrder, held, noteHeld, readOrder}
 use Rattle.wire.specs.Refusals.{Said}
 use Rattle.wire.specs.Messages.{noteIn, inside, signatureIn}
-use Rattle.wire.specs.Fields.{need}
+use Rattle.octets.specs.Tests.{need}
 use Rattle.messages.proofs.Onward.{order-refused}
 use Rattle.messages.proofs.Told.{order-facts}
 use Rattle.messages.proofs.order.read_order.Statement.{statement}
