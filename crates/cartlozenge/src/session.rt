@@ -1,148 +1,35 @@
-// Lines are read as they arrive and answered. No answer is printed before the state that it speaks of is on disk; lines that arrive
-// together share one write.
+// Lines are read as they arrive, and answered.
 use keeping::complaints::complain;
 use keeping::complaints::fail;
-use keeping::files;
-use keeping::files::Loaded;
 use keeping::guard;
+use keeping::saving;
 use libc::STDIN_FILENO;
 use libc::STDOUT_FILENO;
 use lines::files::is_file;
 use lines::serving;
-use lines::serving::Next;
 use lines::serving::Role;
-use refusals::Fault;
-use refusals::unread;
-use text::page::say;
+use text::arrivals::Held;
 use text::page::up_to;
-use text::words;
 
-// How many bytes of the input buffer are held, whether the rest of a line that was too long is still to come, and whether to go on.
-struct Held {
-    filled: usize,
-    skips: bool,
+// What a turn leaves to the next, and whether there is one.
+struct Going {
+    held: Held,
     goes_on: bool,
 }
 
-// The state goes to disk if it changed, in the place of what was saved last and of nothing else.
-fn save(path: &[u8], state: &[u8], saved: &mut [u8]) -> bool {
-    if octets::same(state, saved) {
-        return true;
-    }
-    if !files::write_beside(path, state) {
-        return false;
-    }
-    if !is_undisturbed(path, saved) {
-        complain(
-            path,
-            b"another program changed the state or took it, or it cannot be read; stopped, and nothing was written",
-        );
-        files::drop_beside(path);
-        return false;
-    }
-    if !files::put_in_place(path) {
-        return false;
-    }
-    keep(state, saved);
-    true
-}
-
-fn is_undisturbed(path: &[u8], saved: &[u8]) -> bool {
-    if !guard::is_ours(path) {
-        return false;
-    }
-    files::holds(path, saved)
-}
-
-// And then the answers are printed.
-fn settle(path: &[u8], state: &[u8], saved: &mut [u8], answers: &[u8]) -> bool {
-    if !save(path, state, saved) {
-        return false;
-    }
-    let is_printed = io::write_all(STDOUT_FILENO, answers);
-    if !is_printed {
-        complain(
-            path,
-            b"answers cannot be printed; the state has what they say",
-        );
-    }
-    is_printed
-}
-
-// What was saved last. The two have one length.
-fn keep(state: &[u8], saved: &mut [u8]) {
-    if state.len() <= saved.len() {
-        octets::copy(saved, 0, state);
-    }
-}
-
-// Answers the whole lines that are held, as many as fit a page.
-fn answer_some(
-    role: Role,
-    path: &[u8],
-    state: &mut [u8],
-    saved: &mut [u8],
-    input: &mut [u8],
-    held: Held,
-) -> Held {
-    let mut out = io::large_buffer();
-    let progress = serving::serve(role, state, up_to(input, held.filled), &mut out);
-    let goes_on = settle(path, state, saved, up_to(&out, progress.length));
-    let filled = words::move_front(input, progress.taken, held.filled);
-    Held {
-        filled,
-        skips: false,
-        goes_on,
-    }
-}
-
-fn refuse(fault: Fault) {
-    let mut out = [0u8; 256];
-    let end = unread(&mut out, 0, fault);
-    let last = say(&mut out, end, b"\n");
-    io::write_all(STDOUT_FILENO, up_to(&out, last));
-}
-
-// A line that was too long: what has arrived of it is dropped.
-fn pass_over() -> Held {
-    Held {
-        filled: 0,
-        skips: true,
-        goes_on: true,
-    }
-}
-
-// Its end has arrived: what stands behind it is held.
-fn skip(input: &mut [u8], held: Held) -> Held {
-    let end = words::line_end(up_to(input, held.filled));
-    let filled = behind(input, end, held.filled);
-    Held {
-        filled,
-        skips: false,
-        goes_on: true,
-    }
-}
-
-// Holds what stands behind the line feed at `end`.
-fn behind(input: &mut [u8], end: usize, filled: usize) -> usize {
-    if filled <= end {
-        return 0;
-    }
-    words::move_front(input, end + 1, filled)
-}
-
-// The input has ended. A line without an end may be half of another.
-fn finish(held: Held) -> Held {
-    if 0 < held.filled {
-        if !held.skips {
-            refuse(Fault::NoEnd);
-        }
-    }
-    Held {
-        filled: 0,
-        skips: false,
+fn stop(held: Held) -> Going {
+    Going {
+        held,
         goes_on: false,
     }
+}
+
+// The input has ended.
+fn finish(input: &[u8], held: Held) -> Going {
+    let mut out = [0u8; serving::LONGEST];
+    let n = serving::finish(input, held, &mut out);
+    io::write_all(STDOUT_FILENO, up_to(&out, n));
+    stop(held)
 }
 
 // Whether a read that failed may be tried again: it was interrupted, or nothing has arrived yet.
@@ -159,50 +46,53 @@ fn is_passing() -> bool {
     false
 }
 
-// Reads what has arrived behind what is held.
-fn read_more(input: &mut [u8], held: Held) -> Held {
+// Reads what has arrived behind what is held. To a full buffer nothing can come any more; ours has room for sixteen lines, and what
+// is held when more has to come is less than one.
+fn read_more(input: &mut [u8], held: Held) -> Going {
     let filled = held.filled;
     if filled >= input.len() {
-        refuse(Fault::TooLong);
-        return pass_over();
+        return finish(input, held);
     }
     let space = &mut input[filled..];
     let got = libc::read(STDIN_FILENO, space);
     if got == 0 {
-        return finish(held);
+        return finish(input, held);
     }
     if got < 0 {
-        return Held {
-            filled,
-            skips: held.skips,
+        return Going {
+            held,
             goes_on: is_passing(),
         };
     }
     let n = io::count(got, space);
-    Held {
-        filled: filled + n,
-        skips: held.skips,
+    Going {
+        held: Held {
+            filled: filled + n,
+            skips: held.skips,
+        },
         goes_on: true,
     }
 }
 
-fn turn(
+fn go_on(
     role: Role,
     path: &[u8],
     state: &mut [u8],
     saved: &mut [u8],
     input: &mut [u8],
     held: Held,
-) -> Held {
-    match serving::next_step(held.skips, up_to(input, held.filled)) {
-        Next::Answer => answer_some(role, path, state, saved, input, held),
-        Next::Await => read_more(input, held),
-        Next::Refuse => {
-            refuse(Fault::TooLong);
-            pass_over()
-        }
-        Next::Skip => skip(input, held),
-        Next::Drop => read_more(input, pass_over()),
+    out: &mut [u8],
+) -> Going {
+    let turn = serving::take_turn(role, state, input, held, out);
+    if !saving::settle(path, state, saved, up_to(out, turn.length)) {
+        return stop(held);
+    }
+    if turn.waits {
+        return read_more(input, turn.held);
+    }
+    Going {
+        held: turn.held,
+        goes_on: true,
     }
 }
 
@@ -210,41 +100,25 @@ fn turn(
 fn converse(role: Role, path: &[u8], state: &mut [u8], saved: &mut [u8]) {
     let mut space = io::large_buffer();
     let input: &mut [u8] = &mut space;
+    let mut page = io::large_buffer();
+    let out: &mut [u8] = &mut page;
     let mut held = Held {
         filled: 0,
         skips: false,
-        goes_on: true,
     };
     let mut turns = u64::MAX;
     while 0 < turns {
-        held = turn(role, path, state, saved, input, held);
-        if !held.goes_on {
+        let going = go_on(role, path, state, saved, input, held, out);
+        if !going.goes_on {
             return;
         }
+        held = going.held;
         turns -= 1;
     }
 }
 
 fn open(role: Role, path: &[u8], state: &mut [u8], saved: &mut [u8]) -> bool {
-    if files::is_link(path) {
-        complain(path, b"this is a link; name the state file itself");
-        return false;
-    }
-    match files::load(path, state) {
-        Loaded::Unopened => {
-            fail(path);
-            return false;
-        }
-        Loaded::Unlike => {
-            complain(
-                path,
-                b"refused 16: the file cannot be read whole or has not the length of such a state; it is left alone",
-            );
-            return false;
-        }
-        Loaded::Whole => {}
-    }
-    if !files::sync_name(path) {
+    if !saving::open(path, state) {
         return false;
     }
     if !is_file(role, state) {
@@ -254,7 +128,7 @@ fn open(role: Role, path: &[u8], state: &mut [u8], saved: &mut [u8]) -> bool {
         );
         return false;
     }
-    keep(state, saved);
+    saving::keep(state, saved);
     true
 }
 

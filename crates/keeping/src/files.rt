@@ -6,7 +6,7 @@ use text::page::say_signed;
 use text::page::up_to;
 
 // Whether a path is a link: a new state would take the place of the link, and not of what it leads to.
-pub fn is_link(path: &[u8]) -> bool {
+pub(crate) fn is_link(path: &[u8]) -> bool {
     let mut name = io::buffer();
     say(&mut name, 0, path);
     name[4095] = 0;
@@ -14,7 +14,7 @@ pub fn is_link(path: &[u8]) -> bool {
     libc::readlink(&name, &mut start) >= 0
 }
 
-pub enum Loaded {
+pub(crate) enum Loaded {
     Whole,
     Unlike,
     Unopened,
@@ -22,7 +22,7 @@ pub enum Loaded {
 
 // Fills the state from a file, which must have that many bytes and no more. A run that was killed may have renamed it and not synced
 // yet, and what is answered from it must last.
-pub fn load(path: &[u8], state: &mut [u8]) -> Loaded {
+pub(crate) fn load(path: &[u8], state: &mut [u8]) -> Loaded {
     let file = os::open_read(path);
     if file < 0 {
         return Loaded::Unopened;
@@ -45,7 +45,7 @@ pub fn load(path: &[u8], state: &mut [u8]) -> Loaded {
 }
 
 // Whether the file holds these very bytes.
-pub fn holds(path: &[u8], bytes: &[u8]) -> bool {
+pub(crate) fn holds(path: &[u8], bytes: &[u8]) -> bool {
     let mut space = io::large_buffer();
     let file = os::open_read(path);
     if file < 0 {
@@ -130,21 +130,21 @@ fn own_name(path: &[u8], name: &mut [u8]) -> usize {
 }
 
 // Writes a state beside the one that the file holds.
-pub fn write_beside(path: &[u8], state: &[u8]) -> bool {
+pub(crate) fn write_beside(path: &[u8], state: &[u8]) -> bool {
     let mut space = io::buffer();
     let n = own_name(path, &mut space);
     make(up_to(&space, n), state)
 }
 
 // Takes it away again.
-pub fn drop_beside(path: &[u8]) {
+pub(crate) fn drop_beside(path: &[u8]) {
     let mut space = io::buffer();
     let n = own_name(path, &mut space);
     os::unlink(up_to(&space, n));
 }
 
 // Puts it in the place of the old one.
-pub fn put_in_place(path: &[u8]) -> bool {
+pub(crate) fn put_in_place(path: &[u8]) -> bool {
     let mut space = io::buffer();
     let n = own_name(path, &mut space);
     if os::rename(up_to(&space, n), path) < 0 {

@@ -2,3 +2,4 @@
 pub mod complaints;
 pub mod files;
 pub mod guard;
+pub mod saving;

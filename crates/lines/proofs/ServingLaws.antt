@@ -2,7 +2,7 @@
 use Prim.Native.Nat.{ℕ, zero, suc, _+_, _-_, _≤_, _<_}
 use mathlib.Core.Path.{_≡_, refl, sym, ap, _∙_}
 use mathlib.Core.Bool.{Bool, true, false}
-use mathlib.Core.List.{List}
+use mathlib.Core.List.{List, _++_}
 use native.Mathlib.Omega.{arith}
 use lib.Dec.{leb}
 use lib.ListN.{length, take, drop, length-drop}
@@ -11,10 +11,15 @@ use Rattle.octets.specs.Octets.{cut}
 use Rattle.text.specs.Ascii.{ascii}
 use Rattle.text.specs.Pages.{Page, said}
 use Rattle.text.specs.Words.{lineEnd}
+use Rattle.text.specs.Arrivals.{Arrived, heldIn, nextOf, passing, released}
 use Rattle.text.proofs.PageLaws.{said-then}
 use Rattle.text.proofs.WordLaws.{cut-rest}
 use Rattle.lines.specs.Calls.{Desk, desk, replied}
-use Rattle.lines.specs.Serving.{replyOf, answered, hasRoom, Served, atDesk, nextLine, servedFrom}
+use Rattle.lines.specs.Serving.{replyOf, answered, hasRoom, Served, atDesk, nextLine, servedFrom, served, Turn, turn, answeredTurn, refused, turnOf, turned}
+use Rattle.text.specs.declared.arrivals.Held.{Held}
+use Rattle.text.specs.declared.arrivals.Next.{Next}
+use Rattle.refusals.specs.Refusals.{faultText}
+use Rattle.refusals.specs.declared.Fault.{Fault}
 use Rattle.lines.specs.declared.serving.Role.{Role}
 
 -- where there are fewer than n bytes there is no room for n more; otherwise there is room up to the last n
@@ -75,3 +80,23 @@ module _ {all : Served} (role : Role) (input : List ℕ) (from : ℕ) (d : Desk)
             let place : from + end + 1 ≡ from + (end + 1) = omega arith in
             let turn = rw (behind, ← e, place, ← l, ← a) at (served-turns n role input from d room (rw (behind, ← e) whole)) in
             (n, omega arith, sym turn ∙ q)
+
+-- the lines that were served are done with
+pub answered-turn : {bytes : List ℕ} {taken : ℕ} {q : Desk} {left : Arrived} (role : Role) (d : Desk) (a : Arrived) → bytes ≡ a .bytes → atDesk taken q ≡ served role bytes d → left ≡ released taken a → turn q left false ≡ answeredTurn role d a
+answered-turn {bytes} {taken} {q} {left} role d a part all rest =
+    ap (λ (l : Arrived). turn q l false) rest
+    ∙ ap (λ (v : Served). turn (v .desk) (released (v .taken) a) false) (all ∙ ap (λ (b : List ℕ). served role b d) part)
+
+-- a turn goes by the step that is next
+pub turn-by : {q : Turn} {next : Next} (role : Role) (d : Desk) (a : Arrived) (step : Next) → next ≡ nextOf a → next ≡ step → q ≡ turnOf role d a step → q ≡ turned role d a
+turn-by role d a step e told f = f ∙ ap (turnOf role d a) (sym told ∙ e)
+
+-- what is passed over is dropped, with a refusal where it was too long and without one where it goes on; a line skipped leaves what is behind it
+pub refused-turn : {p : Page} {held : Held} (d : Desk) (buffer : List ℕ) (fault : Fault) → p ≡ said (d .page) (faultText fault ++ ascii "\n") → held ≡ record { filled = 0; skips = true } → turn (desk (d .state) p) (heldIn buffer held) true ≡ turn (refused d fault) passing true
+refused-turn d buffer fault e f = λ i. turn (desk (d .state) (e i)) (heldIn buffer (f i)) true
+
+pub dropped-turn : {held : Held} (d : Desk) (buffer : List ℕ) → held ≡ record { filled = 0; skips = true } → turn d (heldIn buffer held) true ≡ turn d passing true
+dropped-turn d buffer f = ap (λ (h : Held). turn d (heldIn buffer h) true) f
+
+pub skipped-turn : {left rest : Arrived} (d : Desk) → left ≡ rest → turn d left false ≡ turn d rest false
+skipped-turn d e = ap (λ (l : Arrived). turn d l false) e

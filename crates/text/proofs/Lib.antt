@@ -1,2 +1,3 @@
 pub mod PageLaws
 pub mod WordLaws
+pub mod ArrivalLaws

@@ -1,18 +1,18 @@
 -- What a turn of a loop over the bytes of a word or a line shows, and laws of words: the next one, its length, the bytes that it means. Assumes nothing.
 use Prim.Native.Nat.{ℕ, zero, suc, _+_, _-_, _*_, _/_, _%_, _<_, _≤_}
-use mathlib.Core.Bool.{Bool, true, false, not}
+use mathlib.Core.Bool.{Bool, true, false, not, _&&_}
 use mathlib.Core.Path.{_≡_, refl, sym, _∙_}
 use mathlib.Core.List.{List, [], _∷_}
 use native.Mathlib.Omega.{arith}
 use native.Mathlib.Numerals.{add-one}
 use lib.ListN.{length, drop, length-take, length-drop, drop-of-length-le}
 use lib.Seq.{drop-cons, take-all}
-use lib.Dec.{ltb}
+use lib.Dec.{ltb, eqb}
 use borrow.Author.Tests.{not-false, leb-true, ltb-true, eqb-true, lt-ltb, le-ltb, le-leb, lt-leb, eq-eqb, ne-eqb}
 use Rattle.octets.specs.Octets.{number, one, cut, put, bytes}
 use Rattle.octets.proofs.Laws.{put-append, length-put, cut-put}
 use Rattle.octets.proofs.TestLaws.{both}
-use Rattle.text.specs.Words.{isKind, leading, behindWord, wordAt, worth, noNumber, numberOf, nibble, areDigits, unhexed, isStroke, isBytes, isLine, lineEnd}
+use Rattle.text.specs.Words.{isKind, leading, behindWord, wordAt, hasWords, worth, noNumber, numberOf, nibble, areDigits, unhexed, isStroke, isBytes, isLine, lineEnd}
 
 -- what is left from i on is the byte there, and what is left behind it
 pub next-byte : (s : List ℕ) (i : ℕ) → i < length s → drop i s ≡ number one s i ∷ drop (i + 1) s
@@ -54,6 +54,15 @@ pub word-next : (k : ℕ) (line : List ℕ) → (k ≡ 0 → ⊥) → wordAt k l
 unfolding wordAt
 word-next zero line h = absurd (h refl)
 word-next (suc k) line h = let e : suc k - 1 ≡ k = omega arith in rw e
+
+-- a length is not both above 0 and 0
+no-length : (n : ℕ) → false ≡ (ltb 0 n && eqb n 0)
+no-length zero = refl
+no-length (suc n) = rw (lt-ltb 0 (suc n) (omega arith), ne-eqb (suc n) 0 (λ e. omega arith))
+
+-- so no line counts as one without words
+pub no-words : {n : ℕ} (line : List ℕ) → n ≡ 0 → false ≡ hasWords n line
+no-words line e = rw e (no-length (length (wordAt 0 line)))
 
 -- no word is longer than its line
 pub word-short : (k : ℕ) (line : List ℕ) → length (wordAt k line) ≤ length line

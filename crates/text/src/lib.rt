@@ -1,3 +1,4 @@
-// Text in lent bytes: what is written behind one another, and the words of a line.
+// Text in lent bytes: what is written behind one another, the words of a line, and lines as they arrive.
+pub mod arrivals;
 pub mod page;
 pub mod words;

@@ -84,11 +84,13 @@ pub fn word(line: &[u8], k: usize) -> &[u8]
     word(behind_word(line), k - 1)
 }
 
-// Whether a line has n words, n being 1 at least.
+// Whether a line has n words; one without a word counts as having none of them.
 pub fn has_words(line: &[u8], n: usize) -> bool
-    requires { ⌜ 1 ≤ n ⌝ }
     ensures { λ r. ⌜ r ≡ words.hasWords n (now (line .entry)) ⌝ }
 {
+    if n == 0 {
+        return false;
+    }
     if word(line, n - 1).len() == 0 {
         return false;
     }
@@ -217,21 +219,4 @@ pub fn line_end(s: &[u8]) -> usize
         i += 1;
     }
     i
-}
-
-// Moves what stands from `from` up to `filled` to the front, and answers how many bytes that are.
-pub fn move_front(s: &mut [u8], from: usize, filled: usize) -> usize
-    ensures { λ r. ⌜ (now (s .exit) ≡ put (now (s .entry)) 0 (drop from (take filled (now (s .entry))))) × (r ≡ length (drop from (take filled (now (s .entry))))) ⌝ }
-{
-    let mut to = 0;
-    let mut i = from;
-    while i < filled {
-        if i >= s.len() {
-            return to;
-        }
-        s[to] = s[i];
-        to += 1;
-        i += 1;
-    }
-    to
 }

@@ -5,7 +5,7 @@ fn tell(line: &[u8]) {
     io::write_all(STDERR_FILENO, line);
 }
 
-pub(crate) fn usage() {
+pub fn usage() {
     tell(
         b"cartlozenge machine STATE                   a settlement machine; calls come on standard input, one line each\n",
     );

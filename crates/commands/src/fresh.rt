@@ -63,7 +63,7 @@ fn make_ledger() {
     keep_made(answer, 4, &state);
 }
 
-pub(crate) fn make() {
+pub fn make() {
     let mut what = [0u8; 16];
     let n = os::arg(2, &mut what);
     let count = os::arg_count();

@@ -4,8 +4,8 @@ use mathlib.Core.Path.{_≡_, refl, _∙_}
 use native.Mathlib.Omega.{arith}
 use lib.ListN.{length}
 use borrow.Author.Needs.{needs}
-use Rattle.cartlozenge.proofs.join_arguments.Statement.{statement}
-use Rattle.cartlozenge.proofs.join_arguments.Tie as tie
+use Rattle.commands.proofs.drafting.join_arguments.Statement.{statement}
+use Rattle.commands.proofs.drafting.join_arguments.Tie as tie
 
 abbrev Inv-loop : tie.InvT-loop
 Inv-loop line₀ at₀ i₀ count line at i = length line ≡ length line₀

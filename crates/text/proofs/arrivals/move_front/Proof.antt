@@ -9,8 +9,8 @@ use lib.Seq.{getD-take, getD-drop, take-all, length-take-le}
 use borrow.Author.Needs.{needs}
 use Rattle.octets.specs.Octets.{put}
 use Rattle.octets.proofs.Laws.{length-put, getD-put-out, put-more}
-use Rattle.text.proofs.words.move_front.Statement.{statement}
-use Rattle.text.proofs.words.move_front.Tie as tie
+use Rattle.text.proofs.arrivals.move_front.Statement.{statement}
+use Rattle.text.proofs.arrivals.move_front.Tie as tie
 
 -- what is to be moved
 abbrev kept : List ℕ → ℕ → ℕ → List ℕ
