@@ -84,14 +84,15 @@ fn go_on(
     out: &mut [u8],
 ) -> Going {
     let turn = serving::take_turn(role, state, input, held, out);
+    let left = turn.held;
     if !saving::settle(path, state, saved, up_to(out, turn.length)) {
-        return stop(held);
+        return stop(left);
     }
     if turn.waits {
-        return read_more(input, turn.held);
+        return read_more(input, left);
     }
     Going {
-        held: turn.held,
+        held: left,
         goes_on: true,
     }
 }
