@@ -1,25 +1,36 @@
 -- What is said of a refusal. Assumes nothing.
-use Prim.Native.Nat.{ℕ}
-use mathlib.Core.Path.{_≡_, refl, ap}
-use mathlib.Core.Bool.{false}
-use mathlib.Core.List.{List, [], _∷_}
+use Prim.Native.Nat.{ℕ, _≤_}
+use mathlib.Core.Path.{_≡_, refl, sym, ap, _∙_}
+use mathlib.Core.Bool.{true}
+use mathlib.Core.List.{List, []}
 use native.Mathlib.Omega.{arith}
-use lib.Dec.{eqb}
-use lib.ListN.{length}
-use borrow.Author.Tests.{ne-eqb}
+use lib.ListN.{getD}
+use borrow.Author.Tests.{eqb-false}
 use Rattle.wire.specs.Refusals.{refuses, refusalNumber}
 use Rattle.wire.specs.declared.answers.Refusal.{Refusal}
-use Rattle.states.specs.Outcomes.{Outcome, outcome, done}
-use Rattle.states.proofs.Unless.{passed-on}
+use Rattle.states.proofs.Unless.{numbered}
 use Rattle.text.specs.Pages.{Page, said}
-use Rattle.refusals.specs.Refusals.{refusedText, answerText}
+use Rattle.text.specs.Words.{lineAt}
+use Rattle.text.proofs.LineLaws.{joined, areLines, line-joined}
+use Rattle.refusals.specs.Refusals.{refusedText, answerText, faultNumber}
+use Rattle.refusals.specs.declared.Fault.{Fault}
 
--- no refusal has the number 0, or a call would go on behind it
-numbered : (r : Refusal) → eqb (refusalNumber r) 0 ≡ false
-numbered r =
-    ne-eqb (refusalNumber r) 0
-    (λ e. let gone : 0 ≡ 1 = ap (λ (o : Outcome). length (o .state)) (rw e at (passed-on r [] (outcome done (0 ∷ [])) refl)) in absurd (omega arith))
-
--- so the text of an answer that refuses is that of its refusal
+-- the text of an answer that refuses is that of its refusal
 pub said-refused : {q : Page} (p : Page) (r : Refusal) (given : List ℕ) → q ≡ said p (refusedText (refusalNumber r)) → q ≡ said p (answerText (refuses (refusalNumber r)) given)
 said-refused p r given spoken = rw (numbered r) spoken
+
+-- the numbers of refusals begin with 1, those of faults with 101
+pub refusal-least : {n : ℕ} (r : Refusal) → n ≡ refusalNumber r → 1 ≤ n
+refusal-least r e = let some = eqb-false (refusalNumber r) 0 (numbered r) in omega (arith, e, some)
+
+pub fault-least : {n : ℕ} (f : Fault) → n ≡ faultNumber f → 101 ≤ n
+fault-least Fault.Empty e = omega (arith, e)
+fault-least Fault.TooLong e = omega (arith, e)
+fault-least Fault.NoCall e = omega (arith, e)
+fault-least Fault.WordCount e = omega (arith, e)
+fault-least Fault.NotHexadecimal e = omega (arith, e)
+fault-least Fault.NoEnd e = omega (arith, e)
+
+-- a line of a text that is joined from reasons is a reason
+pub said-line : {q : Page} {line : List ℕ} (p : Page) (reasons : List (List ℕ)) (k : ℕ) → areLines reasons ≡ true → line ≡ lineAt k (joined reasons) → q ≡ said p line → q ≡ said p (getD reasons k [])
+said-line p reasons k lines e spoken = spoken ∙ ap (said p) (e ∙ line-joined reasons k lines)

@@ -61,15 +61,21 @@ faultNumber Fault.WordCount = 104
 faultNumber Fault.NotHexadecimal = 105
 faultNumber Fault.NoEnd = 106
 
--- and what it means
-abbrev pub faultReason : Fault → List ℕ
-faultReason Fault.Empty = ascii "the line is empty"
-faultReason Fault.TooLong = ascii "the line is too long"
-faultReason Fault.NoCall = ascii "there is no such call here"
-faultReason Fault.WordCount = ascii "wrong number of words"
-faultReason Fault.NotHexadecimal = ascii "not hexadecimal"
-faultReason Fault.NoEnd = ascii "the line was cut off"
+-- 101 to 106 in their order
+abbrev pub faultReasons : List (List ℕ)
+faultReasons =
+    ascii "the line is empty"
+    ∷ ascii "the line is too long"
+    ∷ ascii "there is no such call here"
+    ∷ ascii "wrong number of words"
+    ∷ ascii "not hexadecimal"
+    ∷ ascii "the line was cut off"
+    ∷ []
+
+-- what such a number means
+abbrev pub faultReason : ℕ → List ℕ
+faultReason n = getD faultReasons (n - 101) []
 
 -- a fault with its number
 abbrev pub faultText : Fault → List ℕ
-faultText fault = refusal (faultNumber fault) (faultReason fault)
+faultText fault = refusal (faultNumber fault) (faultReason (faultNumber fault))

@@ -1,5 +1,6 @@
 // Refusals in words, with their numbers.
 ghost use mathlib.Core.Path.{_≡_};
+ghost use Prim.Native.Nat.{_≤_};
 ghost use mathlib.Core.List.{_++_};
 ghost use Rattle.wire.specs.Refusals.{refusalNumber};
 ghost use Rattle.text.specs.Ascii.{ascii};
@@ -7,6 +8,7 @@ ghost use Rattle.text.specs.Pages.{page, said, decimal};
 ghost use Rattle.refusals.specs.Refusals as refusals;
 use text::page::say;
 use text::page::say_decimal;
+use text::words::line_at;
 use wire::answers::Refusal;
 
 // Why a line is no call.
@@ -19,39 +21,6 @@ pub enum Fault {
     NoEnd,
 }
 
-fn say_reason(out: &mut [u8], at: usize, refusal: Refusal) -> usize
-    ensures { λ r. ⌜ page (now (out .exit)) r ≡ said (page (now (out .entry)) at) (refusals.reason (refusalNumber refusal)) ⌝ }
-{
-    match refusal {
-        Refusal::Malformed => say(
-            out,
-            at,
-            b"tags, lengths or the end are not as laid down, or the message is too long",
-        ),
-        Refusal::OutOfRange => say(out, at, b"a value is out of range or no number"),
-        Refusal::VerdictCount => say(out, at, b"wrong number of verdict bytes"),
-        Refusal::BadVerdict => say(out, at, b"a verdict is not good"),
-        Refusal::UnknownMachine => say(out, at, b"a vote is by a machine outside the committee"),
-        Refusal::VotesNotRising => say(out, at, b"votes repeat or do not rise"),
-        Refusal::TooFewVotes => say(out, at, b"too few votes"),
-        Refusal::SenderNotInUse => say(out, at, b"the sender is not in use"),
-        Refusal::AnotherPending => say(out, at, b"another body is pending"),
-        Refusal::NotNextSequence => say(out, at, b"the sequence is not the next"),
-        Refusal::BalanceTooLow => say(out, at, b"the balance is below the amount"),
-        Refusal::NotNextIndex => say(out, at, b"the funding index is not the next"),
-        Refusal::NotToLedger => say(out, at, b"the recipient is no ledger account"),
-        Refusal::AlreadyRedeemed => say(out, at, b"already redeemed"),
-        Refusal::PotTooLow => say(out, at, b"the pot is below the amount"),
-        Refusal::BadState => say(
-            out,
-            at,
-            b"the state is ill-formed, or a limit would be passed",
-        ),
-        Refusal::IndexExhausted => say(out, at, b"all funding indexes are used"),
-        Refusal::BufferTooSmall => say(out, at, b"the output is too small"),
-    }
-}
-
 fn say_number(out: &mut [u8], at: usize, number: u64) -> usize
     ensures { λ r. ⌜ page (now (out .exit)) r ≡ said (page (now (out .entry)) at) (ascii "refused " ++ decimal number ++ ascii ": ") ⌝ }
 {
@@ -60,11 +29,43 @@ fn say_number(out: &mut [u8], at: usize, number: u64) -> usize
     say(out, last, b": ")
 }
 
+// What a number means, a line for each from 1 on.
+fn say_reason(out: &mut [u8], at: usize, number: u64) -> usize
+    requires { ⌜ 1 ≤ number ⌝ }
+    ensures { λ r. ⌜ page (now (out .exit)) r ≡ said (page (now (out .entry)) at) (refusals.reason number) ⌝ }
+{
+    let why = line_at(
+        b"\
+            tags, lengths or the end are not as laid down, or the message is too long\n\
+            a value is out of range or no number\n\
+            wrong number of verdict bytes\n\
+            a verdict is not good\n\
+            a vote is by a machine outside the committee\n\
+            votes repeat or do not rise\n\
+            too few votes\n\
+            the sender is not in use\n\
+            another body is pending\n\
+            the sequence is not the next\n\
+            the balance is below the amount\n\
+            the funding index is not the next\n\
+            the recipient is no ledger account\n\
+            already redeemed\n\
+            the pot is below the amount\n\
+            the state is ill-formed, or a limit would be passed\n\
+            all funding indexes are used\n\
+            the output is too small\n\
+        ",
+        number as usize - 1,
+    );
+    say(out, at, why)
+}
+
 pub fn refused(out: &mut [u8], at: usize, refusal: Refusal) -> usize
     ensures { λ r. ⌜ page (now (out .exit)) r ≡ said (page (now (out .entry)) at) (refusals.refusedText (refusalNumber refusal)) ⌝ }
 {
-    let next = say_number(out, at, refusal.number());
-    say_reason(out, next, refusal)
+    let number = refusal.number();
+    let next = say_number(out, at, number);
+    say_reason(out, next, number)
 }
 
 fn fault_number(fault: Fault) -> u64
@@ -80,22 +81,29 @@ fn fault_number(fault: Fault) -> u64
     }
 }
 
-fn say_fault(out: &mut [u8], at: usize, fault: Fault) -> usize
-    ensures { λ r. ⌜ page (now (out .exit)) r ≡ said (page (now (out .entry)) at) (refusals.faultReason fault) ⌝ }
+// What it means, a line for each from 101 on.
+fn say_fault(out: &mut [u8], at: usize, number: u64) -> usize
+    requires { ⌜ 101 ≤ number ⌝ }
+    ensures { λ r. ⌜ page (now (out .exit)) r ≡ said (page (now (out .entry)) at) (refusals.faultReason number) ⌝ }
 {
-    match fault {
-        Fault::Empty => say(out, at, b"the line is empty"),
-        Fault::TooLong => say(out, at, b"the line is too long"),
-        Fault::NoCall => say(out, at, b"there is no such call here"),
-        Fault::WordCount => say(out, at, b"wrong number of words"),
-        Fault::NotHexadecimal => say(out, at, b"not hexadecimal"),
-        Fault::NoEnd => say(out, at, b"the line was cut off"),
-    }
+    let why = line_at(
+        b"\
+            the line is empty\n\
+            the line is too long\n\
+            there is no such call here\n\
+            wrong number of words\n\
+            not hexadecimal\n\
+            the line was cut off\n\
+        ",
+        number as usize - 101,
+    );
+    say(out, at, why)
 }
 
 pub fn unread(out: &mut [u8], at: usize, fault: Fault) -> usize
     ensures { λ r. ⌜ page (now (out .exit)) r ≡ said (page (now (out .entry)) at) (refusals.faultText fault) ⌝ }
 {
-    let next = say_number(out, at, fault_number(fault));
-    say_fault(out, next, fault)
+    let number = fault_number(fault);
+    let next = say_number(out, at, number);
+    say_fault(out, next, number)
 }

@@ -13,7 +13,7 @@ use Rattle.states.specs.Headers.{faultsIn}
 use Rattle.states.specs.Outcomes.{Outcome, refused, unless}
 
 -- no refusal has the number 0
-numbered : (r : Refusal) → eqb (refusalNumber r) 0 ≡ false
+pub numbered : (r : Refusal) → eqb (refusalNumber r) 0 ≡ false
 numbered Refusal.Malformed = refl
 numbered Refusal.OutOfRange = refl
 numbered Refusal.VerdictCount = refl

@@ -1,3 +1,4 @@
 pub mod PageLaws
 pub mod WordLaws
+pub mod LineLaws
 pub mod ArrivalLaws

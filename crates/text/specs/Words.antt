@@ -101,3 +101,12 @@ isLine line = leb (length line) 4_096
 unfoldable pub lineEnd : List ℕ → ℕ
 lineEnd [] = 0
 lineEnd (b ∷ bs) = cond (eqb b 10) 0 (suc (lineEnd bs))
+
+-- what stands behind the first line and its line feed
+abbrev pub behindLine : List ℕ → List ℕ
+behindLine s = drop (lineEnd s + 1) s
+
+-- the lines of a text, counted from 0; empty where it has not so many
+unfoldable pub lineAt : ℕ → List ℕ → List ℕ
+lineAt zero s = take (lineEnd s) s
+lineAt (suc k) s = lineAt k (behindLine s)

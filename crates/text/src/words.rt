@@ -220,3 +220,24 @@ pub fn line_end(s: &[u8]) -> usize
     }
     i
 }
+
+// What stands behind the first line and its line feed.
+fn behind_line(s: &[u8]) -> &[u8]
+    ensures { λ r. ⌜ now r ≡ words.behindLine (now (s .entry)) ⌝ }
+{
+    let end = line_end(s);
+    if end == s.len() {
+        return from(s, end);
+    }
+    from(s, end + 1)
+}
+
+// The line of a text, counted from 0; empty where it has not so many.
+pub fn line_at(s: &[u8], k: usize) -> &[u8]
+    ensures { λ r. ⌜ now r ≡ words.lineAt k (now (s .entry)) ⌝ }
+{
+    if k == 0 {
+        return octets::cut(s, 0, line_end(s));
+    }
+    line_at(behind_line(s), k - 1)
+}
