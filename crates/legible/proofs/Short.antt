@@ -114,7 +114,7 @@ refusal-short : (n : ℕ) (why : List ℕ) → n < 2 ^ 64 → length why ≤ 80 
 unfolding ascii
 refusal-short n why h k = simp length-append (omega (arith, decimal-short n h, k))
 
-fault-fits : (fault : Fault) → (refusals.faultNumber fault < 2 ^ 64) × (length (refusals.faultReason fault) ≤ 80)
+fault-fits : (fault : Fault) → (refusals.faultNumber fault < 2 ^ 64) × (length (refusals.faultReason (refusals.faultNumber fault)) ≤ 80)
 unfolding ascii
 fault-fits Fault.Empty = (lit< tt, lit≤ tt)
 fault-fits Fault.TooLong = (lit< tt, lit≤ tt)
@@ -259,7 +259,7 @@ abbrev Short : Reply → Type 0
 Short r = ShortText (r .text)
 
 fault-short : (fault : Fault) (s : List ℕ) → Short (faulty fault s)
-fault-short fault s = let f = fault-fits fault in omega (arith, refusal-short (refusals.faultNumber fault) (refusals.faultReason fault) (f .0) (f .1))
+fault-short fault s = let f = fault-fits fault in omega (arith, refusal-short (refusals.faultNumber fault) (refusals.faultReason (refusals.faultNumber fault)) (f .0) (f .1))
 
 handled-short : (paper : Paper) (s m verdicts : List ℕ) → Short (handled paper s m verdicts)
 unfolding handled narrow

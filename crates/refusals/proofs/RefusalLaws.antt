@@ -32,5 +32,5 @@ fault-least Fault.NotHexadecimal e = omega (arith, e)
 fault-least Fault.NoEnd e = omega (arith, e)
 
 -- a line of a text that is joined from reasons is a reason
-pub said-line : {q : Page} {line : List ℕ} (p : Page) (reasons : List (List ℕ)) (k : ℕ) → areLines reasons ≡ true → line ≡ lineAt k (joined reasons) → q ≡ said p line → q ≡ said p (getD reasons k [])
-said-line p reasons k lines e spoken = spoken ∙ ap (said p) (e ∙ line-joined reasons k lines)
+pub said-line : {q : Page} {line text : List ℕ} (p : Page) (reasons : List (List ℕ)) (k : ℕ) → q ≡ said p line → line ≡ lineAt k text → text ≡ joined reasons → areLines reasons ≡ true → q ≡ said p (getD reasons k [])
+said-line p reasons k spoken e all lines = spoken ∙ ap (said p) (e ∙ ap (lineAt k) all ∙ line-joined reasons k lines)
