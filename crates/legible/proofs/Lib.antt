@@ -1,4 +1,10 @@
 pub mod Spelling
 pub mod ReadBack
 pub mod Short
+pub mod Lines
+pub mod Pages
+pub mod Answers
+pub mod Keeping
+pub mod Turns
+pub mod Pieces
 pub mod Legible

@@ -8,8 +8,8 @@ use lib.Dec.{leb, ltb, eqb, lit<, lit≤}
 use lib.IntN.{ℤ, pos, negsuc}
 use lib.ListN.{length, getD, replicate, length-append, length-take}
 use borrow.Author.Tests.{leb-true, ltb-true}
-use Rattle.octets.specs.Octets.{two, eight, cut, same}
-use Rattle.octets.proofs.Laws.{length-put, number-lt}
+use Rattle.octets.specs.Octets.{cut, same}
+use Rattle.octets.proofs.Laws.{length-put}
 use Rattle.wire.specs.Numbers.{isAccount, isAmount}
 use Rattle.octets.specs.Tests.{need}
 use Rattle.wire.specs.Fields.{laid}
@@ -28,6 +28,7 @@ use Rattle.records.proofs.Facts.{formed-fits, pending-fits}
 use Rattle.ledger.specs.Answers.{FundOutcome}
 use Rattle.ledger.specs.States as logs
 use Rattle.ledger.specs.Calls as ledger
+use Rattle.ledger.proofs.Facts.{state-pot}
 use Rattle.invariants.specs.Outcomes.{need-case, cond-case}
 use Rattle.desk.specs.Layout.{Fit}
 use Rattle.desk.specs.Theorems.{Says, answer, refusal, order-says, certificate-says, funding-order-says, fund-says, redeem-says, log-says}
@@ -39,7 +40,6 @@ use Rattle.refusals.specs.declared.Fault.{Fault}
 use Rattle.wording.specs.Answers.{orderText, certificateText, fundingText, accountText, standingText, fundText, redeemText, potText, logText}
 use Rattle.lines.specs.Calls.{Reply, faulty, handled, paperLine, accountLine, standingLine, fundLine, potLine, logLine, uncalled, machineLine, ledgerLine}
 use Rattle.lines.specs.declared.calls.Paper.{Paper}
-use Rattle.legible.specs.Theorems.{Bytes}
 use Rattle.legible.proofs.Spelling.{decimal-short, length-hexadecimal}
 
 -- a word is worth a number of eight bytes, if only the one that is no number
@@ -220,11 +220,11 @@ account-small s account =
     refused : (n : ℕ) → n < 256 → SmallAccount (unshown n)
     refused n h = record { said = record { number = h; values = tt }; balance = lit< tt }
 
-pot-small : (s : List ℕ) → Bytes s → Small (ledger.readPot logs.base s)
+pot-small : (s : List ℕ) → lastIndex s ≤ 65_535 → Small (ledger.readPot logs.base s)
 unfolding ledger.readPot
-pot-small s all =
-    need-case Small (logs.isState logs.base s) _ _ (record { number = lit< tt; values = tt }) (λ _.
-    record { number = lit< tt; values = (omega (arith, number-lt two s 2 all), (number-lt eight s 4 all, tt)) })
+pot-small s few =
+    need-case Small (logs.isState logs.base s) _ _ (record { number = lit< tt; values = tt }) (λ formed.
+    record { number = lit< tt; values = (omega (arith, few), (omega (arith, state-pot s formed), tt)) })
 
 body-small : (m s : List ℕ) → length (machine.standing records.base m s) ≤ 57
 unfolding machine.standing machine.standingOn
@@ -258,7 +258,7 @@ fund-out s out account amount =
 abbrev Short : Reply → Type 0
 Short r = ShortText (r .text)
 
-fault-short : (fault : Fault) (s : List ℕ) → Short (faulty fault s)
+pub fault-short : (fault : Fault) (s : List ℕ) → Short (faulty fault s)
 fault-short fault s = let f = fault-fits fault in omega (arith, refusal-short (refusals.faultNumber fault) (refusals.faultReason (refusals.faultNumber fault)) (f .0) (f .1))
 
 handled-short : (paper : Paper) (s m verdicts : List ℕ) → Short (handled paper s m verdicts)
@@ -297,9 +297,9 @@ module _ (s line : List ℕ) where
   unfolding fundLine narrow
   fund-line = of-words 3 _ (fund-short _ (small refl (fund-says s _ _ _)) (fund-out s (replicate 16 0) _ _))
 
-  pot-line : Bytes s → Short (potLine s line)
+  pot-line : lastIndex s ≤ 65_535 → Short (potLine s line)
   unfolding potLine
-  pot-line all = of-words 1 _ (pot-short (pot-small s all))
+  pot-line few = of-words 1 _ (pot-short (pot-small s few))
 
   log-line : Short (logLine s line)
   unfolding logLine narrow
@@ -322,12 +322,12 @@ module _ (s line : List ℕ) where
       (called (ascii "standing") _ _ standing-line
       no-call)))))
 
-  pub ledger-short : Bytes s → Short (ledgerLine s line)
+  pub ledger-short : lastIndex s ≤ 65_535 → Short (ledgerLine s line)
   unfolding ledgerLine
-  ledger-short all =
+  ledger-short few =
       of-size _
       (called (ascii "redeem") _ _ (paper-line Paper.Redemption)
       (called (ascii "fund") _ _ fund-line
-      (called (ascii "pot") _ _ (pot-line all)
+      (called (ascii "pot") _ _ (pot-line few)
       (called (ascii "redeemed") _ _ log-line
       no-call))))
