@@ -1,9 +1,9 @@
 // Lines are read as they arrive, and answered.
 use keeping::complaints::complain;
-use keeping::complaints::fail;
 use keeping::guard;
+use keeping::input;
+use keeping::input::Reading;
 use keeping::saving;
-use libc::STDIN_FILENO;
 use libc::STDOUT_FILENO;
 use lines::files::is_file;
 use lines::serving;
@@ -32,45 +32,17 @@ fn finish(input: &[u8], held: Held) -> Going {
     stop(held)
 }
 
-// Whether a read that failed may be tried again: it was interrupted, or nothing has arrived yet.
-fn is_passing() -> bool {
-    let error = os::errno();
-    if error == libc::EINTR {
-        return true;
-    }
-    if error == libc::EAGAIN {
-        libc::sched_yield();
-        return true;
-    }
-    fail(b"standard input");
-    false
-}
-
-// Reads what has arrived behind what is held. To a full buffer nothing can come any more; ours has room for sixteen lines, and what
-// is held when more has to come is less than one.
 fn read_more(input: &mut [u8], held: Held) -> Going {
-    let filled = held.filled;
-    if filled >= input.len() {
-        return finish(input, held);
-    }
-    let space = &mut input[filled..];
-    let got = libc::read(STDIN_FILENO, space);
-    if got == 0 {
-        return finish(input, held);
-    }
-    if got < 0 {
-        return Going {
-            held,
-            goes_on: is_passing(),
-        };
-    }
-    let n = io::count(got, space);
-    Going {
-        held: Held {
-            filled: filled + n,
-            skips: held.skips,
+    let arrival = input::read_more(input, held);
+    let later = arrival.held;
+    let reading = arrival.reading;
+    match reading {
+        Reading::Open => Going {
+            held: later,
+            goes_on: true,
         },
-        goes_on: true,
+        Reading::Ended => finish(input, later),
+        Reading::Failed => stop(later),
     }
 }
 

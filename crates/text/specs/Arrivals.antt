@@ -1,7 +1,8 @@
 -- Bytes that arrive in pieces, and what is to be done with them.
 use Prim.Native.Nat.{ℕ, _+_}
+use mathlib.Core.Path.{_≡_}
 use mathlib.Core.Bool.{Bool, true, false, cond}
-use mathlib.Core.List.{List, []}
+use mathlib.Core.List.{List, [], _++_}
 use lib.ListN.{length, take, drop}
 use lib.Dec.{ltb}
 use Rattle.octets.specs.Tests.{need}
@@ -21,6 +22,10 @@ arrived bytes skips = record { bytes = bytes; skips = skips }
 -- as it stands at the front of a buffer
 abbrev pub heldIn : List ℕ → Held → Arrived
 heldIn buffer held = arrived (take (held .filled) buffer) (held .skips)
+
+-- more has arrived, behind what had
+abbrev pub Grows : Arrived → Arrived → Type 0
+Grows a b = (piece : List ℕ) × (b ≡ arrived (a .bytes ++ piece) (a .skips))
 
 -- whether there is a whole line
 abbrev pub hasLine : List ℕ → Bool
