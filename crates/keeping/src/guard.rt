@@ -6,7 +6,7 @@ use crate::files::name_beside;
 use crate::files::own_digits;
 use libc::STDERR_FILENO;
 use text::page::say;
-use text::page::say_decimal;
+use text::page::say_numbered;
 use text::page::up_to;
 use text::words;
 
@@ -22,8 +22,7 @@ fn lock_name(path: &[u8], name: &mut [u8]) -> usize {
 // killed before it had the lock.
 fn heir_name(path: &[u8], depth: u64, name: &mut [u8]) -> usize {
     let ended = say(name, 0, path);
-    let dotted = say(name, ended, b".heir");
-    say_decimal(name, dotted, depth)
+    say_numbered(name, ended, b".heir", depth)
 }
 
 enum Mark {

@@ -1,7 +1,6 @@
 // What messages say, and messages that were written.
 ghost use mathlib.Core.Path.{_≡_};
 ghost use mathlib.Core.Bool.{cond};
-ghost use mathlib.Core.List.{_++_};
 ghost use lib.Dec.{eqb};
 ghost use Prim.Native.Nat.{_+_, _*_, _<_};
 ghost use lib.ListN.{length, take};
@@ -16,6 +15,7 @@ use refusals::refused;
 use text::page::say;
 use text::page::say_decimal;
 use text::page::say_hexadecimal;
+use text::page::say_numbered;
 use text::page::up_to;
 use wire::answers::BodyAnswer;
 use wire::answers::BodyRead;
@@ -48,14 +48,11 @@ fn pays(out: &mut [u8], at: usize, kind: u64) -> usize
 fn payment(out: &mut [u8], at: usize, payment: Payment) -> usize
     ensures { λ r. ⌜ page (now (out .exit)) r ≡ said (page (now (out .entry)) at) (papers.paymentText (paymentValues payment)) ⌝ }
 {
-    let named = say(out, at, b"account ");
-    let sent = say_decimal(out, named, payment.sender.0);
+    let sent = say_numbered(out, at, b"account ", payment.sender.0);
     let told = pays(out, sent, payment.kind);
     let received = say_decimal(out, told, payment.recipient);
-    let amounts = say(out, received, b", amount ");
-    let counted = say_decimal(out, amounts, payment.amount);
-    let next = say(out, counted, b", sequence ");
-    say_decimal(out, next, payment.sequence.0)
+    let next = say_numbered(out, received, b", amount ", payment.amount);
+    say_numbered(out, next, b", sequence ", payment.sequence.0)
 }
 
 // An array's length is known where it is lent as one.
@@ -124,8 +121,7 @@ fn machines(out: &mut [u8], at: usize, message: &[u8], place: usize, n: usize) -
     let mut from = place;
     let mut i = 0;
     while i < n {
-        let named = say(out, next, b" ");
-        next = say_decimal(out, named, octets::get8(message, from));
+        next = say_numbered(out, next, b" ", octets::get8(message, from));
         from += 68;
         i += 1;
     }
@@ -155,12 +151,9 @@ pub fn certificate(
 fn funds(out: &mut [u8], at: usize, funding: Funding) -> usize
     ensures { λ r. ⌜ page (now (out .exit)) r ≡ said (page (now (out .entry)) at) (papers.fundingReadText (fundingSaid (FundingAnswer.Funds funding))) ⌝ }
 {
-    let named = say(out, at, b"funding order ");
-    let numbered = say_decimal(out, named, funding.index.0);
-    let owned = say(out, numbered, b": account ");
-    let told = say_decimal(out, owned, funding.account.0);
-    let next = say(out, told, b", amount ");
-    say_decimal(out, next, funding.amount)
+    let numbered = say_numbered(out, at, b"funding order ", funding.index.0);
+    let next = say_numbered(out, numbered, b": account ", funding.account.0);
+    say_numbered(out, next, b", amount ", funding.amount)
 }
 
 pub fn funding(out: &mut [u8], at: usize, answer: FundingAnswer) -> usize

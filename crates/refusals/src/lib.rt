@@ -7,7 +7,7 @@ ghost use Rattle.text.specs.Ascii.{ascii};
 ghost use Rattle.text.specs.Pages.{page, said, decimal};
 ghost use Rattle.refusals.specs.Refusals as refusals;
 use text::page::say;
-use text::page::say_decimal;
+use text::page::say_numbered;
 use text::words::line_at;
 use wire::answers::Refusal;
 
@@ -24,9 +24,8 @@ pub enum Fault {
 fn say_number(out: &mut [u8], at: usize, number: u64) -> usize
     ensures { λ r. ⌜ page (now (out .exit)) r ≡ said (page (now (out .entry)) at) (ascii "refused " ++ decimal number ++ ascii ": ") ⌝ }
 {
-    let next = say(out, at, b"refused ");
-    let last = say_decimal(out, next, number);
-    say(out, last, b": ")
+    let next = say_numbered(out, at, b"refused ", number);
+    say(out, next, b": ")
 }
 
 // What a number means, a line for each from 1 on.

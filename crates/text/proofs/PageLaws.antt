@@ -2,7 +2,7 @@
 use Prim.Native.Nat.{ℕ, zero, suc, _+_, _-_, _/_, _%_, _≤_, _<_}
 use mathlib.Core.Path.{_≡_, refl, sym, ap, _∙_}
 use mathlib.Core.Bool.{Bool, true, false, false≢true}
-use mathlib.Core.List.{List, [], _∷_, _++_}
+use mathlib.Core.List.{List, [], _∷_, _++_, append-assoc}
 use native.Mathlib.Nat.{sub-zero, suc-sub-suc}
 use native.Mathlib.Numerals.{add-one}
 use native.Mathlib.Omega.{arith}
@@ -38,6 +38,10 @@ said-append p a b =
 -- the same for callers, who know each page by what was said to make it
 pub said-then : {q r : Page} (p : Page) (a b : List ℕ) → q ≡ said p a → r ≡ said q b → r ≡ said p (a ++ b)
 said-then p a b first second = second ∙ ap (λ (s : Page). said s b) first ∙ said-append p a b
+
+-- the same where the second text is itself two, as a text and a number are
+pub said-then-two : {q r : Page} (p : Page) (a b c : List ℕ) → q ≡ said p a → r ≡ said q (b ++ c) → r ≡ said p (a ++ b ++ c)
+said-then-two p a b c first second = rw (append-assoc a b c) (said-then p a (b ++ c) first second)
 
 -- a loop's turn: once the front of a text is said, what is left of it gives the page that all of it would
 pub said-rest : {q r : Page} (p : Page) (a b : List ℕ) → q ≡ said p a → said p (a ++ b) ≡ r → said q b ≡ r

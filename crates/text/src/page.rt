@@ -1,7 +1,7 @@
 // Text is written behind the first `at` bytes of a page, and the answer is how many are text then. What does not fit is left out.
 ghost use mathlib.Core.Path.{_≡_};
 ghost use Prim.Native.Nat.{_<_};
-ghost use mathlib.Core.List.{[], _∷_};
+ghost use mathlib.Core.List.{[], _∷_, _++_};
 ghost use lib.ListN.{take};
 ghost use Rattle.text.specs.Pages as pages;
 ghost use Rattle.text.specs.Pages.{page, said};
@@ -54,6 +54,14 @@ pub fn say_decimal(out: &mut [u8], at: usize, n: u64) -> usize
     }
     let next = say_decimal(out, at, n / 10);
     say_digit(out, next, n % 10)
+}
+
+// A text, and a number in decimal digits behind it.
+pub fn say_numbered(out: &mut [u8], at: usize, text: &[u8], number: u64) -> usize
+    ensures { λ r. ⌜ page (now (out .exit)) r ≡ said (page (now (out .entry)) at) (now (text .entry) ++ pages.decimal number) ⌝ }
+{
+    let next = say(out, at, text);
+    say_decimal(out, next, number)
 }
 
 // How far a number is from 0. One step nearer first, so that the lowest has room too.

@@ -20,6 +20,7 @@ use refusals::refused;
 use text::page::say;
 use text::page::say_decimal;
 use text::page::say_hexadecimal;
+use text::page::say_numbered;
 use text::page::say_signed;
 use wire::kinds::Account;
 use wire::kinds::Sequence;
@@ -76,15 +77,13 @@ pub fn funding(out: &mut [u8], at: usize, answer: CreditAnswer) -> usize
 fn reading(out: &mut [u8], at: usize, account: Account, reading: Reading) -> usize
     ensures { λ r. ⌜ page (now (out .exit)) r ≡ said (page (now (out .entry)) at) (answers.accountText (account .0) (accountShown (AccountAnswer.Shows reading))) ⌝ }
 {
-    let named = say(out, at, b"account ");
-    let numbered = say_decimal(out, named, account.0);
+    let numbered = say_numbered(out, at, b"account ", account.0);
     let marked = in_use(out, numbered, reading.used);
     let next = reading.next;
     let counted = say_decimal(out, marked, next.0);
     let balanced = say(out, counted, b", balance ");
     let signed = say_signed(out, balanced, reading.balance);
-    let freed = say(out, signed, b", free to spend ");
-    say_decimal(out, freed, reading.free)
+    say_numbered(out, signed, b", free to spend ", reading.free)
 }
 
 fn in_use(out: &mut [u8], at: usize, used: bool) -> usize
@@ -120,8 +119,7 @@ pub fn fund(out: &mut [u8], at: usize, answer: FundAnswer, order: &[u8]) -> usiz
 {
     match answer {
         FundAnswer::Funded(index) => {
-            let named = say(out, at, b"funding order ");
-            let numbered = say_decimal(out, named, index.0);
+            let numbered = say_numbered(out, at, b"funding order ", index.0);
             let next = say(out, numbered, b": ");
             say_hexadecimal(out, next, order)
         }
@@ -134,10 +132,8 @@ pub fn redeem(out: &mut [u8], at: usize, answer: RedeemAnswer) -> usize
 {
     match answer {
         RedeemAnswer::Paid(payout) => {
-            let paid = say(out, at, b"paid ");
-            let counted = say_decimal(out, paid, payout.amount);
-            let next = say(out, counted, b" to ledger account ");
-            say_decimal(out, next, payout.account)
+            let next = say_numbered(out, at, b"paid ", payout.amount);
+            say_numbered(out, next, b" to ledger account ", payout.account)
         }
         RedeemAnswer::Refused(refusal) => refused(out, at, refusal),
     }
@@ -148,11 +144,9 @@ pub fn pot(out: &mut [u8], at: usize, answer: PotAnswer) -> usize
 {
     match answer {
         PotAnswer::Holds(pot) => {
-            let named = say(out, at, b"pot ");
-            let counted = say_decimal(out, named, pot.amount);
-            let next = say(out, counted, b", last funding index ");
+            let next = say_numbered(out, at, b"pot ", pot.amount);
             let index = pot.index;
-            say_decimal(out, next, index.0)
+            say_numbered(out, next, b", last funding index ", index.0)
         }
         PotAnswer::Refused(refusal) => refused(out, at, refusal),
     }
@@ -161,10 +155,8 @@ pub fn pot(out: &mut [u8], at: usize, answer: PotAnswer) -> usize
 fn entry(out: &mut [u8], at: usize, account: Account, sequence: Sequence) -> usize
     ensures { λ r. ⌜ page (now (out .exit)) r ≡ said (page (now (out .entry)) at) (ascii "account " ++ decimal (account .0) ++ ascii ", sequence " ++ decimal (sequence .0)) ⌝ }
 {
-    let named = say(out, at, b"account ");
-    let numbered = say_decimal(out, named, account.0);
-    let next = say(out, numbered, b", sequence ");
-    say_decimal(out, next, sequence.0)
+    let next = say_numbered(out, at, b"account ", account.0);
+    say_numbered(out, next, b", sequence ", sequence.0)
 }
 
 pub fn log(

@@ -11,7 +11,7 @@ use Rattle.octets.specs.Octets.{one, number}
 use Rattle.wire.specs.Votes.{signers}
 use Rattle.text.specs.Ascii.{ascii}
 use Rattle.text.specs.Pages.{page, said, decimal}
-use Rattle.text.proofs.PageLaws.{said-then, said-rest, said-nothing}
+use Rattle.text.proofs.PageLaws.{said-rest, said-nothing}
 use Rattle.papers.specs.Papers.{machinesNamed}
 use Rattle.papers.proofs.machines.Statement.{statement}
 use Rattle.papers.proofs.machines.Tie as tie
@@ -38,17 +38,14 @@ abbrev μ-loop : tie.MeasureT-loop
 loop-holds : tie.Need-loop-holds Inv-loop μ-loop
 loop-holds c = (omega arith, omega arith, rw sub-zero, refl)
 
-slice-aggregate-say : tie.Need-slice-aggregate-say Inv-loop μ-loop
-slice-aggregate-say c = search needs
-
-say-requires : tie.Need-say-requires Inv-loop μ-loop
-say-requires c κs = search needs
+slice-aggregate-say-numbered : tie.Need-slice-aggregate-say-numbered Inv-loop μ-loop
+slice-aggregate-say-numbered c = search needs
 
 get8-requires : tie.Need-get8-requires Inv-loop μ-loop
 get8-requires c κs = omega arith
 
-say-decimal-requires : tie.Need-say-decimal-requires Inv-loop μ-loop
-say-decimal-requires c κs = search needs
+say-numbered-requires : tie.Need-say-numbered-requires Inv-loop μ-loop
+say-numbered-requires c κs = search needs
 
 add-from : tie.Need-add-from Inv-loop μ-loop
 add-from c = search needs
@@ -63,12 +60,12 @@ loop-again : tie.Need-loop-again Inv-loop μ-loop
 unfolding ascii
 loop-again c =
     let numbered = c .before .before in
-    let named = numbered .before .before .before .before .before in
-    let came = named .before .before .before .before .loop in
-    let start = named .before .before .before .before .before .before .before in
-    let turn = machines-more (start .args .message .now) (came .from) (start .args .n) (came .i) (named .before .before .before .loop-test .taken) in
-    let said-one = said-then _ _ _ (named .say .ensures) (rw (numbered .before .get8 .ensures .0) at (numbered .say-decimal .ensures)) in
-    (omega arith, omega arith, said-rest _ _ _ said-one (rw (← turn) (came .inv .2)), numbered .say-decimal .kept .0 ∙ named .say .kept .0 ∙ came .inv .3)
+    let test = numbered .before .before .before .before in
+    let came = test .before .loop in
+    let start = test .before .before .before .before in
+    let turn = machines-more (start .args .message .now) (came .from) (start .args .n) (came .i) (test .loop-test .taken) in
+    let said-one = rw (numbered .before .get8 .ensures .0) at (numbered .say-numbered .ensures) in
+    (omega arith, omega arith, said-rest _ _ _ said-one (rw (← turn) (came .inv .2)), numbered .say-numbered .kept .0 ∙ came .inv .3)
 
 same-length : tie.Need-same-length Inv-loop μ-loop
 same-length c = search needs
@@ -83,10 +80,9 @@ machines-spec =
     Inv-loop
     μ-loop
     loop-holds
-    slice-aggregate-say
-    say-requires
+    slice-aggregate-say-numbered
     get8-requires
-    say-decimal-requires
+    say-numbered-requires
     add-from
     add-i
     loop-less

@@ -10,20 +10,17 @@ use Rattle.wording.proofs.fund.Tie as tie
 enum-known-answer : tie.Need-enum-known-answer
 enum-known-answer c = search needs
 
+slice-aggregate-say-numbered : tie.Need-slice-aggregate-say-numbered
+slice-aggregate-say-numbered c = search needs
+
+say-numbered-requires : tie.Need-say-numbered-requires
+say-numbered-requires c κs = search needs
+
 slice-aggregate-say : tie.Need-slice-aggregate-say
 slice-aggregate-say c = search needs
 
 say-requires : tie.Need-say-requires
 say-requires c κs = search needs
-
-say-decimal-requires : tie.Need-say-decimal-requires
-say-decimal-requires c κs = search needs
-
-slice-aggregate-say-2 : tie.Need-slice-aggregate-say-2
-slice-aggregate-say-2 c = search needs
-
-say-requires-2 : tie.Need-say-requires-2
-say-requires-2 c κs = search needs
 
 say-hexadecimal-requires : tie.Need-say-hexadecimal-requires
 say-hexadecimal-requires c κs = search needs
@@ -43,9 +40,8 @@ returns c =
     let last = c .before .before in
     let next = last .before .before .before .before in
     let numbered = next .before .before .before .before .before in
-    let named = numbered .before .before .before .before in
-    rw (named .before .before .before .before .answer .given .1)
-    (said-then _ _ _ (said-then _ _ _ (said-then _ _ _ (named .say .ensures) (numbered .say-decimal .ensures)) (next .say2 .ensures)) (last .say-hexadecimal .ensures))
+    rw (numbered .before .before .before .before .answer .given .1)
+    (said-then _ _ _ (said-then _ _ _ (numbered .say-numbered .ensures) (next .say .ensures)) (last .say-hexadecimal .ensures))
 
 same-length-2 : tie.Need-same-length-2
 same-length-2 c = search needs
@@ -59,11 +55,10 @@ fund-spec =
     tie.close
     (tie.spec
     enum-known-answer
+    slice-aggregate-say-numbered
+    say-numbered-requires
     slice-aggregate-say
     say-requires
-    say-decimal-requires
-    slice-aggregate-say-2
-    say-requires-2
     say-hexadecimal-requires
     enum-known-answer-2
     refused-requires
