@@ -25,9 +25,9 @@ runs role s a pieces end (Run.reads {s = t} {a = b} {pieces = later} {end = last
     let turn = turns role out t b (piece ++ whole later) room fits in
     let left = turnOn role out t b in
     ap (first (shown (left .desk .page))) (runs role _ _ later last rest (turn .1) ∙ joins role (left .desk .state) (left .left) piece (whole later)) ∙ turn .0
-runs role s a pieces end (Run.ends {s = t} {a = b} out room waits) fits =
+runs role s a pieces end (Run.ends {s = t} {a = b} out last room last-room waits) fits =
     let turn = turns role out t b [] room fits in
-    ap (first (shown (turnOn role out t b .desk .page))) (sym (ends role out t b waits)) ∙ turn .0
+    ap (first (shown (turnOn role out t b .desk .page))) (sym (ends role out last t b last-room waits)) ∙ turn .0
 
 -- a run to the end, from whatever has arrived
 abbrev Ending : Role → List (List ℕ) → List ℕ → Arrived → Type 0
@@ -58,7 +58,7 @@ until role pieces waiting (suc n) s a h = go (turnOn role blank s a .waits) refl
     go false e more = let rest = more (omega (arith, h, shrinks role blank s a room e)) in (_, Run.goes-on blank room e (rest .1))
 
 ending : (role : Role) (pieces : List (List ℕ)) (s : List ℕ) (a : Arrived) → Ending role pieces s a
-ending role [] s a = until role [] (λ t b e. (_, Run.ends blank room e)) (length (a .bytes)) s a (omega arith)
+ending role [] s a = until role [] (λ t b e. (_, Run.ends blank blank room room e)) (length (a .bytes)) s a (omega arith)
 ending role (piece ∷ pieces) s a =
     until role (piece ∷ pieces) (λ t b e. let rest = ending role pieces _ _ in (_, Run.reads blank piece room e (rest .1))) (length (a .bytes)) s a (omega arith)
 

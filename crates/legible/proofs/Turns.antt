@@ -4,12 +4,13 @@ use mathlib.Core.Path.{_≡_, refl, sym, ap, _∙_}
 use mathlib.Core.Bool.{Bool, true, false, false≢true, cond}
 use mathlib.Core.List.{List, [], _∷_, _++_, append-assoc, append-nil}
 use native.Mathlib.Omega.{arith}
+use lib.Dec.{ltb}
 use lib.ListN.{length, take, drop, length-append, length-drop}
 use lib.Seq.{drop-drop}
 use borrow.Author.Tests.{leb-false, lt-leb, le-leb, ltb-true}
 use Rattle.octets.specs.Tests.{need}
 use Rattle.text.specs.Ascii.{ascii}
-use Rattle.text.specs.Pages.{page}
+use Rattle.text.specs.Pages.{page, said}
 use Rattle.text.specs.Words.{isLine, lineEnd, behindLine}
 use Rattle.text.specs.Arrivals.{Arrived, arrived, hasLine, nextOf, passing, skipped}
 use Rattle.text.specs.declared.arrivals.Next.{Next}
@@ -134,23 +135,35 @@ turns role out s a more room fits =
     (rw (off, said) (refused-once role s (a .bytes) more none long), fits))
     (λ none off short. (refl, fits))
 
--- at the end of the input, what is left of a turn that waits is all that is still to be answered
-abbrev Ends : Role → List ℕ → List ℕ → Arrived → Next → Type 0
-Ends role out s a step =
-    let t = turnOf role (desk s (page out 0)) a step in
-    t .waits ≡ true → toldFrom role (t .desk .state) (t .left) [] ≡ told (lastText (t .left)) (t .desk .state)
+-- what is said at the end fits a page
+last-short : (a : Arrived) → length (lastText a) ≤ 256
+unfolding ascii
+last-short a =
+    let P : List ℕ → Type 0 = λ (text : List ℕ). length text ≤ 256 in
+    let l : length (faultText Fault.NoEnd ++ ascii "\n") ≡ length (faultText Fault.NoEnd) + 1 = length-append (faultText Fault.NoEnd) (ascii "\n") in
+    cond-case P (a .skips) _ _ (λ on. omega arith) (λ off.
+    need-case P (ltb 0 (length (a .bytes))) _ _ (omega arith) (λ some.
+    omega (arith, l, fault-short Fault.NoEnd [])))
 
-pub ends : (role : Role) (out s : List ℕ) (a : Arrived) → Ends role out s a (nextOf a)
+-- at the end of the input, what is left of a turn that waits is all that is still to be answered
+abbrev Ends : Role → List ℕ → List ℕ → List ℕ → Arrived → Next → Type 0
+Ends role out last s a step =
+    let t = turnOf role (desk s (page out 0)) a step in
+    t .waits ≡ true → toldFrom role (t .desk .state) (t .left) [] ≡ told (shown (said (page last 0) (lastText (t .left)))) (t .desk .state)
+
+pub ends : (role : Role) (out last s : List ℕ) (a : Arrived) → 256 ≤ length last → Ends role out last s a (nextOf a)
 unfolding turnOf lineEnd
-ends role out s a =
-    next-case (Ends role out s a) a
+ends role out last s a room =
+    let printed : (left : Arrived) → told (shown (said (page last 0) (lastText left))) s ≡ told (lastText left) s =
+    λ left. ap (λ (text : List ℕ). told text s) (shown-said (page last 0) (lastText left) (omega (arith, room, last-short left))) in
+    next-case (Ends role out last s a) a
     (λ has on waits. absurd (false≢true waits))
     (λ has off waits. absurd (false≢true waits))
-    (λ none on waits. refl)
-    (λ none off long waits. refl)
+    (λ none on waits. sym (printed passing))
+    (λ none off long waits. sym (printed passing))
     (λ none off short waits.
-    let last = answers-end role s (a .bytes) none in
-    rw (off, append-nil) (rw short at last))
+    let unanswered = answers-end role s (a .bytes) none in
+    sym (printed a ∙ sym (rw (off, append-nil) (rw short at unanswered))))
 
 -- serving goes forward, and past a line where there is one
 serves-forward : (n : ℕ) (role : Role) (input : List ℕ) (from : ℕ) (d : Desk) → from ≤ servedFrom n role input from d .taken

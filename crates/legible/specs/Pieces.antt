@@ -8,7 +8,7 @@ use lib.Dec.{ltb}
 use Rattle.octets.specs.Tests.{need}
 use Rattle.states.specs.Headers.{lastIndex}
 use Rattle.text.specs.Ascii.{ascii}
-use Rattle.text.specs.Pages.{Page, page}
+use Rattle.text.specs.Pages.{Page, page, said}
 use Rattle.text.specs.Words.{isLine, lineEnd, behindLine}
 use Rattle.text.specs.Arrivals.{Arrived, arrived, hasLine}
 use Rattle.refusals.specs.Refusals.{faultText}
@@ -57,7 +57,8 @@ abbrev pub turnOn : Role → List ℕ → List ℕ → Arrived → Turn
 turnOn role out s a = turned role (desk s (page out 0)) a
 
 -- A run of the program: from a state and what has arrived, with the pieces that it has still to read, to what it printed and the state in the
--- end. After each turn the text of its page is printed. Where the turn waits, the next piece is put behind what is left, or the input ends.
+-- end. After each turn the text of its page is printed. Where the turn waits, the next piece is put behind what is left; or the input ends,
+-- and what is said then has a page of its own.
 pub data Run (role : Role) : List ℕ → Arrived → List (List ℕ) → Told → Type 0 where
   goes-on : {s : List ℕ} {a : Arrived} {pieces : List (List ℕ)} {end : Told} (out : List ℕ) → 256 ≤ length out → turnOn role out s a .waits ≡ false
       → Run role (turnOn role out s a .desk .state) (turnOn role out s a .left) pieces end
@@ -65,8 +66,8 @@ pub data Run (role : Role) : List ℕ → Arrived → List (List ℕ) → Told �
   reads : {s : List ℕ} {a : Arrived} {pieces : List (List ℕ)} {end : Told} (out piece : List ℕ) → 256 ≤ length out → turnOn role out s a .waits ≡ true
       → Run role (turnOn role out s a .desk .state) (arrived (turnOn role out s a .left .bytes ++ piece) (turnOn role out s a .left .skips)) pieces end
       → Run role s a (piece ∷ pieces) (first (shown (turnOn role out s a .desk .page)) end)
-  ends : {s : List ℕ} {a : Arrived} (out : List ℕ) → 256 ≤ length out → turnOn role out s a .waits ≡ true
-      → Run role s a [] (first (shown (turnOn role out s a .desk .page)) (told (lastText (turnOn role out s a .left)) (turnOn role out s a .desk .state)))
+  ends : {s : List ℕ} {a : Arrived} (out last : List ℕ) → 256 ≤ length out → 256 ≤ length last → turnOn role out s a .waits ≡ true
+      → Run role s a [] (first (shown (turnOn role out s a .desk .page)) (told (shown (said (page last 0) (lastText (turnOn role out s a .left)))) (turnOn role out s a .desk .state)))
 
 -- the pieces as one
 unfoldable pub whole : List (List ℕ) → List ℕ
