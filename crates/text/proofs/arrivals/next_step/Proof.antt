@@ -1,4 +1,5 @@
 -- Each step is told by whether a line feed has come, whether a line is passed over, and how much has come. Assumes nothing.
+use lib.ListN.{length}
 use borrow.Author.Needs.{needs}
 use borrow.Author.Tests.{lt-ltb, le-ltb, lt-leb, le-leb}
 use Rattle.text.specs.Arrivals.{nextOf}
@@ -33,13 +34,13 @@ returns-4 : tie.Need-returns-4
 unfolding nextOf
 returns-4 c =
     let line = c .before .before .before in
-    rw (← line .before .up-to .ensures, ← line .line-end .ensures .0, le-ltb _ _ (c .before .before .if1 .left), c .before .if3 .left, lt-leb _ _ (c .if4 .taken))
+    rw (← line .before .up-to .ensures, ← line .line-end .ensures .0, le-ltb _ _ (c .before .before .if1 .left), c .before .if3 .left, lt-leb (length (line .before .up-to .result .now)) 4_096 (c .if4 .taken))
 
 returns-5 : tie.Need-returns-5
 unfolding nextOf
 returns-5 c =
     let line = c .before .before .before in
-    rw (← line .before .up-to .ensures, ← line .line-end .ensures .0, le-ltb _ _ (c .before .before .if1 .left), c .before .if3 .left, le-leb _ _ (c .if4 .left))
+    rw (← line .before .up-to .ensures, ← line .line-end .ensures .0, le-ltb _ _ (c .before .before .if1 .left), c .before .if3 .left, le-leb (length (line .before .up-to .result .now)) 4_096 (c .if4 .left))
 
 pub next-step-spec : {M : Type 1} → statement M
 next-step-spec =
