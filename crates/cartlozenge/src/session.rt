@@ -1,4 +1,9 @@
 // Lines are read as they arrive, and answered.
+ghost use mathlib.Core.Path.{_≡_};
+ghost use Rattle.text.specs.Pages.{page};
+ghost use Rattle.text.specs.Arrivals.{heldIn, Grows};
+ghost use Rattle.lines.specs.Calls.{desk};
+ghost use Rattle.lines.specs.Serving.{turned};
 use keeping::complaints::complain;
 use keeping::guard;
 use keeping::input;
@@ -17,7 +22,9 @@ struct Going {
     goes_on: bool,
 }
 
-fn stop(held: Held) -> Going {
+fn stop(held: Held) -> Going
+    ensures { λ r. ⌜ r .held ≡ held ⌝ }
+{
     Going {
         held,
         goes_on: false,
@@ -25,14 +32,18 @@ fn stop(held: Held) -> Going {
 }
 
 // The input has ended.
-fn finish(input: &[u8], held: Held) -> Going {
+fn finish(input: &[u8], held: Held) -> Going
+    ensures { λ r. ⌜ r .held ≡ held ⌝ }
+{
     let mut out = [0u8; serving::LONGEST];
     let n = serving::finish(input, held, &mut out);
     io::write_all(STDOUT_FILENO, up_to(&out, n));
     stop(held)
 }
 
-fn read_more(input: &mut [u8], held: Held) -> Going {
+fn read_more(input: &mut [u8], held: Held) -> Going
+    ensures { λ r. ⌜ Grows (heldIn (now (input .entry)) held) (heldIn (now (input .exit)) (r .held)) ⌝ }
+{
     let arrival = input::read_more(input, held);
     let later = arrival.held;
     let reading = arrival.reading;
@@ -46,6 +57,7 @@ fn read_more(input: &mut [u8], held: Held) -> Going {
     }
 }
 
+// The state is that of the turn, and what is held is what it left, with what was read behind it.
 fn go_on(
     role: Role,
     path: &[u8],
@@ -54,7 +66,9 @@ fn go_on(
     input: &mut [u8],
     held: Held,
     out: &mut [u8],
-) -> Going {
+) -> Going
+    ensures { λ r. ⌜ (now (state .exit) ≡ turned role (desk (now (state .entry)) (page (now (out .entry)) 0)) (heldIn (now (input .entry)) held) .desk .state) × Grows (turned role (desk (now (state .entry)) (page (now (out .entry)) 0)) (heldIn (now (input .entry)) held) .left) (heldIn (now (input .exit)) (r .held)) ⌝ }
+{
     let turn = serving::take_turn(role, state, input, held, out);
     let left = turn.held;
     if !saving::settle(path, state, saved, up_to(out, turn.length)) {

@@ -42,7 +42,7 @@ fn read_behind(buffer: &mut [u8], filled: usize) -> isize
     libc::read(STDIN_FILENO, space)
 }
 
-// To a full buffer nothing can come any more.
+// To a full buffer nothing can come. The program's has room for sixteen of the longest lines, and holds less than one when it reads.
 pub fn read_more(buffer: &mut [u8], held: Held) -> Arrival
     ensures { λ r. ⌜ Grows (heldIn (now (buffer .entry)) held) (heldIn (now (buffer .exit)) (r .held)) ⌝ }
 {
@@ -66,6 +66,7 @@ pub fn read_more(buffer: &mut [u8], held: Held) -> Arrival
             reading: after_failure(),
         };
     }
+    // It moved no more than there was room for.
     let n = io::count(got, buffer);
     Arrival {
         held: Held {

@@ -1,4 +1,9 @@
 // A state is on disk before an answer that speaks of it is printed; answers that come together share one write.
+ghost use mathlib.Core.Path.{_≡_};
+ghost use lib.Dec.{leb};
+ghost use lib.ListN.{length};
+ghost use Rattle.octets.specs.Octets.{put};
+ghost use Rattle.octets.specs.Tests.{need};
 use crate::complaints::complain;
 use crate::complaints::fail;
 use crate::files;
@@ -6,8 +11,10 @@ use crate::files::Loaded;
 use crate::guard;
 use libc::STDOUT_FILENO;
 
-// What was saved last. The two have one length.
-pub fn keep(state: &[u8], saved: &mut [u8]) {
+// Notes what was saved last. The two have one length.
+pub fn keep(state: &[u8], saved: &mut [u8])
+    ensures { λ r. ⌜ now (saved .exit) ≡ need (leb (length (now (state .entry))) (length (now (saved .entry)))) (now (saved .entry)) (put (now (saved .entry)) 0 (now (state .entry))) ⌝ }
+{
     if state.len() <= saved.len() {
         octets::copy(saved, 0, state);
     }

@@ -11,7 +11,7 @@ use Rattle.text.specs.Arrivals.{hasLine}
 use Rattle.lines.specs.Calls.{Reply}
 use Rattle.lines.specs.Serving.{replyOf}
 use Rattle.lines.specs.declared.serving.Role.{Role}
-use Rattle.legible.specs.Pieces.{Told, told, first, unended, answers, answersTo}
+use Rattle.legible.specs.Pieces.{told, first, unended, answers, answersTo}
 use Rattle.legible.proofs.Lines.{rest-shorter}
 
 -- the reply to the first line

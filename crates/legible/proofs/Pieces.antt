@@ -63,4 +63,4 @@ ending role (piece ∷ pieces) s a =
     until role (piece ∷ pieces) (λ t b e. let rest = ending role pieces _ _ in (_, Run.reads blank piece room e (rest .1))) (length (a .bytes)) s a (omega arith)
 
 pub heard-whole : Whole
-heard-whole = record { heard = λ fits run. runs _ _ _ _ _ run fits; ending = λ role s pieces. ending role pieces s (arrived [] false) }
+heard-whole = record { heard = λ fits run. runs _ _ _ _ _ run fits; shrinking = λ role out s a room waits. shrinks role out s a room waits; ending = λ role s pieces. ending role pieces s (arrived [] false) }

@@ -12,7 +12,7 @@ use Rattle.octets.specs.Tests.{need}
 use Rattle.text.specs.Ascii.{ascii}
 use Rattle.text.specs.Pages.{page, said}
 use Rattle.text.specs.Words.{isLine, lineEnd, behindLine}
-use Rattle.text.specs.Arrivals.{Arrived, arrived, hasLine, nextOf, passing, skipped}
+use Rattle.text.specs.Arrivals.{Arrived, hasLine, nextOf, passing}
 use Rattle.text.specs.declared.arrivals.Next.{Next}
 use Rattle.refusals.specs.Refusals.{faultText}
 use Rattle.refusals.specs.declared.Fault.{Fault}
@@ -20,7 +20,7 @@ use Rattle.invariants.specs.Outcomes.{need-case, cond-case}
 use Rattle.lines.specs.Calls.{Desk, desk, faulty, machineLine, ledgerLine}
 use Rattle.lines.specs.Serving.{replyOf, answered, hasRoom, Served, nextLine, servedFrom, served, turnOf, lastText}
 use Rattle.lines.specs.declared.serving.Role.{Role}
-use Rattle.legible.specs.Pieces.{Told, told, first, unended, answersTo, shown, Fits}
+use Rattle.legible.specs.Pieces.{Told, told, first, answersTo, shown, Fits}
 use Rattle.legible.proofs.Lines.{line-before, rest-before, has-before, rest-shorter, line-behind, rest-behind, has-behind}
 use Rattle.legible.proofs.Short.{fault-short}
 use Rattle.legible.proofs.Pages.{answer-shown, shown-said}

@@ -1,5 +1,5 @@
 -- However the input is torn: what is printed, and the state in the end, are those of the whole input.
-use Prim.Native.Nat.{ℕ, zero, suc, _≤_}
+use Prim.Native.Nat.{ℕ, zero, suc, _<_, _≤_}
 use mathlib.Core.Path.{_≡_}
 use mathlib.Core.Bool.{true, false}
 use mathlib.Core.List.{List, [], _∷_, _++_}
@@ -58,7 +58,7 @@ turnOn role out s a = turned role (desk s (page out 0)) a
 
 -- A run of the program: from a state and what has arrived, with the pieces that it has still to read, to what it printed and the state in the
 -- end. After each turn the text of its page is printed. Where the turn waits, the next piece is put behind what is left; or the input ends,
--- and what is said then has a page of its own.
+-- and what is said then has a page of its own. A read that is interrupted brings an empty piece.
 pub data Run (role : Role) : List ℕ → Arrived → List (List ℕ) → Told → Type 0 where
   goes-on : {s : List ℕ} {a : Arrived} {pieces : List (List ℕ)} {end : Told} (out : List ℕ) → 256 ≤ length out → turnOn role out s a .waits ≡ false
       → Run role (turnOn role out s a .desk .state) (turnOn role out s a .left) pieces end
@@ -83,5 +83,7 @@ Fits Role.Ledger s = lastIndex s ≤ 65_535
 pub record Whole : Type 0 where
   -- a program that starts on a state prints the answers to the whole input, and leaves the state that they leave, whatever the pieces are
   pub heard : {role : Role} {s : List ℕ} {pieces : List (List ℕ)} {end : Told} → Fits role s → Run role s (arrived [] false) pieces end → end ≡ answersTo role s (whole pieces)
-  -- and there is such a run for every input: it comes to its end
+  -- a turn that does not wait leaves less than it found, so that none goes on for ever
+  pub shrinking : (role : Role) (out s : List ℕ) (a : Arrived) → 256 ≤ length out → turnOn role out s a .waits ≡ false → length (turnOn role out s a .left .bytes) < length (a .bytes)
+  -- and every input has a run to its end
   pub ending : (role : Role) (s : List ℕ) (pieces : List (List ℕ)) → (end : Told) × Run role s (arrived [] false) pieces end

@@ -38,7 +38,7 @@ unfoldable pub wordAt : ℕ → List ℕ → List ℕ
 wordAt zero line = firstWord line
 wordAt (suc k) line = wordAt k (behindWord line)
 
--- a line of n words, one at least
+-- a line of n words; none is one of 0
 abbrev pub hasWords : ℕ → List ℕ → Bool
 hasWords n line = ltb 0 (length (wordAt (n - 1) line)) && eqb (length (wordAt n line)) 0
 

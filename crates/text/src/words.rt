@@ -2,7 +2,7 @@
 ghost use mathlib.Core.Path.{_≡_};
 ghost use mathlib.Core.Bool.{true};
 ghost use Prim.Native.Nat.{_≤_, _*_, _%_};
-ghost use lib.ListN.{length, take, drop};
+ghost use lib.ListN.{length, drop};
 ghost use Rattle.octets.specs.Octets.{put, cut};
 ghost use Rattle.text.specs.Words as words;
 
@@ -84,7 +84,7 @@ pub fn word(line: &[u8], k: usize) -> &[u8]
     word(behind_word(line), k - 1)
 }
 
-// Whether a line has n words; one without a word counts as having none of them.
+// Whether a line has n words. Of 0 the answer is no, even of an empty line.
 pub fn has_words(line: &[u8], n: usize) -> bool
     ensures { λ r. ⌜ r ≡ words.hasWords n (now (line .entry)) ⌝ }
 {
