@@ -10,7 +10,7 @@ pub fn complain(path: &[u8], why: &[u8]) {
 }
 
 // With the system's own word for it.
-pub fn fail(path: &[u8]) {
+pub(crate) fn fail(path: &[u8]) {
     io::write_all(STDERR_FILENO, b"cartlozenge: ");
     os::fail(path);
 }

@@ -365,7 +365,7 @@ fn take_again(path: &[u8], lock: &[u8]) -> bool {
 }
 
 // Whether the state is still ours.
-pub fn is_ours(path: &[u8]) -> bool {
+pub(crate) fn is_ours(path: &[u8]) -> bool {
     let mut space = io::buffer();
     let n = lock_name(path, &mut space);
     is_own(up_to(&space, n))

@@ -1,9 +1,7 @@
 // A state is on disk before an answer that speaks of it is printed; answers that come together share one write.
 ghost use mathlib.Core.Path.{_≡_};
-ghost use lib.Dec.{leb};
-ghost use lib.ListN.{length};
-ghost use Rattle.octets.specs.Octets.{put};
-ghost use Rattle.octets.specs.Tests.{need};
+ghost use mathlib.Core.Bool.{true};
+ghost use Rattle.keeping.specs.Saving.{noted};
 use crate::complaints::complain;
 use crate::complaints::fail;
 use crate::files;
@@ -13,7 +11,7 @@ use libc::STDOUT_FILENO;
 
 // Notes what was saved last. The two have one length.
 pub fn keep(state: &[u8], saved: &mut [u8])
-    ensures { λ r. ⌜ now (saved .exit) ≡ need (leb (length (now (state .entry))) (length (now (saved .entry)))) (now (saved .entry)) (put (now (saved .entry)) 0 (now (state .entry))) ⌝ }
+    ensures { λ r. ⌜ now (saved .exit) ≡ noted (now (state .entry)) (now (saved .entry)) ⌝ }
 {
     if state.len() <= saved.len() {
         octets::copy(saved, 0, state);
@@ -50,7 +48,9 @@ fn is_undisturbed(path: &[u8], saved: &[u8]) -> bool {
 }
 
 // The state goes to disk if it changed, in the place of what was saved last and of nothing else.
-fn save(path: &[u8], state: &[u8], saved: &mut [u8]) -> bool {
+fn save(path: &[u8], state: &[u8], saved: &mut [u8]) -> bool
+    ensures { λ r. ⌜ (r ≡ true → now (saved .exit) ≡ noted (now (state .entry)) (now (saved .entry))) ⌝ }
+{
     if octets::same(state, saved) {
         return true;
     }
@@ -72,17 +72,19 @@ fn save(path: &[u8], state: &[u8], saved: &mut [u8]) -> bool {
     true
 }
 
-// And then the answers are printed.
-pub fn settle(path: &[u8], state: &[u8], saved: &mut [u8], answers: &[u8]) -> bool {
+// And then the answers are printed. Where they are, what is noted as saved is the state that they speak of.
+pub fn settle(path: &[u8], state: &[u8], saved: &mut [u8], answers: &[u8]) -> bool
+    ensures { λ r. ⌜ (r ≡ true → now (saved .exit) ≡ noted (now (state .entry)) (now (saved .entry))) ⌝ }
+{
     if !save(path, state, saved) {
         return false;
     }
-    let is_printed = io::write_all(STDOUT_FILENO, answers);
-    if !is_printed {
+    if !io::write_all(STDOUT_FILENO, answers) {
         complain(
             path,
             b"answers cannot be printed; the state has what they say",
         );
+        return false;
     }
-    is_printed
+    true
 }

@@ -1,0 +1,2 @@
+-- What is noted of a state that was saved.
+pub mod Saving
