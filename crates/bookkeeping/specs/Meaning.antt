@@ -8,7 +8,7 @@ use lib.Dec.{leb, eqb}
 use Rattle.octets.specs.Octets.{put}
 use Rattle.wire.specs.Numbers.{isAccount, isAmount}
 use Rattle.states.specs.Headers.{lastIndex, withIndex}
-use Rattle.ledger.specs.States.{Rules, isState, pot, withPot, isPot}
+use Rattle.ledger.specs.States.{Rules, isState, pot, withPot, isPot, isRedeemed}
 use Rattle.ledger.specs.Answers.{FundOutcome}
 use Rattle.ledger.specs.Calls.{fund, redeem}
 
@@ -27,6 +27,13 @@ pub record Lays (rules : Rules) : Type 0 where
   pub logs-seats : (s : List ℕ) (at : ℕ) (vs : List ℕ) → rules .logs ≤ at → rules .committee (put s at vs) ≡ rules .committee s
   pub pot-seats : (s : List ℕ) (amount : ℕ) → rules .committee (withPot s amount) ≡ rules .committee s
   pub pot-most : (s : List ℕ) → rules .isHeader s ≡ true → isPot (pot s) ≡ true
+
+-- a state that was moved: length and header are right by the other rules, and index, pot and logs are the same
+pub record Moved (rules : Rules) (s : List ℕ) (rules′ : Rules) (t : List ℕ) : Type 0 where
+  pub state : isState rules′ t ≡ true
+  pub index : lastIndex t ≡ lastIndex s
+  pub pots : pot t ≡ pot s
+  pub logs : (account sequence : ℕ) → isRedeemed rules′ t account sequence ≡ isRedeemed rules s account sequence
 
 -- a call on the ledger: fund with an output buffer, an account and an amount, or redeem with a message and verdicts
 pub data Call : Type 0 where

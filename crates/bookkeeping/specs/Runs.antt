@@ -95,10 +95,10 @@ run-balanced s f calls h =
 pub pot-limited : {rules : Rules} {s : List ℕ} {orders funding paid : ℕ} → Balanced rules s orders funding paid → pot s ≤ 65_535_000_000_000
 pot-limited b = omega arith
 
-pub fund-never-16 : {s : List ℕ} {orders funding paid : ℕ} (out : List ℕ) (account amount : ℕ) → Balanced base s orders funding paid
-    → fund base s out account amount .answer .number ≡ 16 → ⊥
+pub fund-never-16 : {rules : Rules} {s : List ℕ} {orders funding paid : ℕ} (out : List ℕ) (account amount : ℕ) → Balanced rules s orders funding paid
+    → fund rules s out account amount .answer .number ≡ 16 → ⊥
 unfolding fund
-fund-never-16 {s} out account amount b =
+fund-never-16 {rules} {s} out account amount b =
     let P : FundOutcome → Type 0 = λ o. o .answer .number ≡ 16 → ⊥ in
     rw (b .state)
     (need-case P (isAccount account) _ _ (λ e. omega arith) (λ _.
@@ -107,33 +107,33 @@ fund-never-16 {s} out account amount b =
     need-case P (leb 16 (length out)) _ _ (λ e. omega arith) (λ _.
     rw (pot-has-room amount b v) (λ e. omega arith))))))
 
-pub redeem-never-16 : {s : List ℕ} {orders funding paid : ℕ} (m verdicts : List ℕ) → Balanced base s orders funding paid
-    → redeem base s m verdicts .answer .number ≡ 16 → ⊥
+pub redeem-never-16 : {rules : Rules} {s : List ℕ} {orders funding paid : ℕ} (m verdicts : List ℕ) → Balanced rules s orders funding paid
+    → redeem rules s m verdicts .answer .number ≡ 16 → ⊥
 unfolding redeem pay
-redeem-never-16 {s} m verdicts b e =
+redeem-never-16 {rules} {s} m verdicts b e =
     let p = payment (inside m) in
     let told : Outcome → ℕ = λ o. o .answer .number in
-    let low : redeem base s m verdicts .answer .number ≤ 15 =
-    holds told (isState base s) _ _ (b .state)
-    (below told (eqb (judgedBy (base .committee s) m verdicts .number) 0) _ _ (judged (base .committee s) m verdicts) (λ _.
+    let low : redeem rules s m verdicts .answer .number ≤ 15 =
+    holds told (isState rules s) _ _ (b .state)
+    (below told (eqb (judgedBy (rules .committee s) m verdicts .number) 0) _ _ (judged (rules .committee s) m verdicts) (λ _.
     below told (eqb (p .kind) 1) _ _ (lit≤ tt) (λ _.
-    either told (isRedeemed base s (p .sender .0) (p .sequence .0)) _ _ (lit≤ tt) (λ _.
+    either told (isRedeemed rules s (p .sender .0) (p .sequence .0)) _ _ (lit≤ tt) (λ _.
     below told (leb (p .amount) (pot s)) _ _ (lit≤ tt) (λ _. lit≤ tt))))) in
     omega arith
 
-pub pot-never-16 : {s : List ℕ} {orders funding paid : ℕ} → Balanced base s orders funding paid → readPot base s .number ≡ 16 → ⊥
+pub pot-never-16 : {rules : Rules} {s : List ℕ} {orders funding paid : ℕ} → Balanced rules s orders funding paid → readPot rules s .number ≡ 16 → ⊥
 unfolding readPot
 pot-never-16 b = rw (b .state) (λ e. omega arith)
 
-pub log-never-16 : {s : List ℕ} {orders funding paid : ℕ} (account sequence : ℕ) → Balanced base s orders funding paid
-    → readLog base s account sequence .number ≡ 16 → ⊥
+pub log-never-16 : {rules : Rules} {s : List ℕ} {orders funding paid : ℕ} (account sequence : ℕ) → Balanced rules s orders funding paid
+    → readLog rules s account sequence .number ≡ 16 → ⊥
 unfolding readLog
-log-never-16 {s} account sequence b =
+log-never-16 {rules} {s} account sequence b =
     let P : Said → Type 0 = λ x. x .number ≡ 16 → ⊥ in
     rw (b .state)
     (need-case P (isAccount account) _ _ (λ e. omega arith) (λ _.
     need-case P (isSequence sequence) _ _ (λ e. omega arith) (λ _.
-    cond-case P (isRedeemed base s account sequence) _ _ (λ _ e. omega arith) (λ _ e. omega arith))))
+    cond-case P (isRedeemed rules s account sequence) _ _ (λ _ e. omega arith) (λ _ e. omega arith))))
 
 -- 65,535 funding orders fit: below that number each one that is asked for in range is given, and 17 follows
 pub fund-fits : {s : List ℕ} {orders funding paid : ℕ} (out : List ℕ) (account amount : ℕ) → Balanced base s orders funding paid

@@ -6,3 +6,6 @@ pub mod RecordLaws
 pub mod Outcomes
 pub mod Keeping
 pub mod Bounds
+pub mod Moving
+pub mod Layouts
+pub mod Sixteen

@@ -1,12 +1,12 @@
 -- What a call on a machine can come to: the bytes as they were, or new ones, with what the tests on the way said. Assumes nothing.
 use Prim.Native.Nat.{ℕ, zero, suc, _+_, _*_, _≤_, _<_}
 use mathlib.Core.Path.{_≡_, refl, sym, _∙_}
-use mathlib.Core.Bool.{Bool, true, false, _||_, cond, false≢true}
+use mathlib.Core.Bool.{Bool, true, false, _||_, _&&_, not, cond, false≢true}
 use mathlib.Core.List.{List}
 use native.Mathlib.Omega.{arith}
 use lib.ListN.{length}
 use lib.Dec.{leb, ltb, eqb, eqb·suc-zero, lit<}
-use borrow.Author.Tests.{leb-true, ltb-true, ltb-false, eqb-true, eqb-false, eq-eqb}
+use borrow.Author.Tests.{leb-true, ltb-true, ltb-false, eqb-true, eqb-false, eq-eqb, not-true, not-false}
 use Rattle.octets.specs.Octets.{same}
 use Rattle.wire.specs.Numbers.{isFaults, isMachine}
 use Rattle.octets.specs.Tests.{need}
@@ -27,8 +27,8 @@ use Rattle.records.specs.declared.record.Record.{Record}
 use Rattle.records.specs.Balances.{nought, highest}
 use Rattle.records.specs.Records.{holding, paid, credited}
 use Rattle.records.specs.States.{Rules, stateLength, isState, recordOf, isFormed, pendingOf, withRecord, freshState}
-use Rattle.records.specs.Answers.{voteNew, voteRepeated, confirmed, already}
-use Rattle.records.specs.Calls.{fresh, order, vote, voteOn, toItself, pay, settleOn, settle, certificate, creditOn, credit, fundingOrder}
+use Rattle.records.specs.Answers.{voteNew, voteRepeated, confirmedWith, alreadyWith}
+use Rattle.records.specs.Calls.{fresh, order, vote, voteOn, toItself, debited, pay, hasPlace, settleOn, settle, isPaper, certificate, creditOn, credit, fundingOrder}
 
 -- what is read without a refusal holds a body
 pub order-body : (m : List ℕ) → said (readOrderPayment m) ≡ 0 → isBody (inside m) ≡ true
@@ -83,18 +83,25 @@ funding-order m e =
 pub body-range : (body : List ℕ) → isBody body ≡ true → PaymentRange (payment body)
 body-range body h = payment-range (payment body) (both (laid body bodyFields) (isPayment (payment body)) h .1)
 
--- the bytes after a new vote, after a payment that takes n off the sender, after one to another account, and after a funding order
+-- the bytes after a new vote, after a payment that takes n off the sender and no more, after one whose amount leaves the balances kept here, where its
+-- credit was sent too, after one to another account, and after a funding order
 abbrev pub afterVote : Rules → List ℕ → List ℕ → List ℕ
 afterVote rules s body = let account = payment body .sender .0 in withRecord rules s account (holding (recordOf rules s account) body)
 
 abbrev pub afterPaid : Rules → List ℕ → Payment → ℕ → List ℕ
 afterPaid rules s p n = let account = p .sender .0 in withRecord rules s account (paid (recordOf rules s account) n)
 
-abbrev pub afterMoved : Rules → List ℕ → Payment → List ℕ
-afterMoved rules s p = let account = p .recipient in withRecord rules (afterPaid rules s p (p .amount)) account (credited (recordOf rules s account) (p .amount))
+abbrev pub afterDebit : Rules → List ℕ → Payment → List ℕ
+afterDebit rules s p = debited rules s p (recordOf rules s (p .sender .0))
+
+abbrev pub afterSending : Rules → List ℕ → Payment → List ℕ
+afterSending rules s p = rules .sent (afterDebit rules s p) (p .recipient) (p .amount)
+
+abbrev pub afterTransfer : Rules → List ℕ → Payment → List ℕ
+afterTransfer rules s p = let account = p .recipient in withRecord rules (afterPaid rules s p (p .amount)) account (credited (recordOf rules s account) (p .amount))
 
 abbrev pub afterFunding : Rules → List ℕ → Funding → List ℕ
-afterFunding rules s o = let account = o .account .0 in withRecord rules (withIndex s (o .index .0)) account (credited (recordOf rules s account) (o .amount))
+afterFunding rules s o = let account = o .account .0 in withRecord rules (withIndex (rules .tallied s 0 (o .amount)) (o .index .0)) account (credited (recordOf rules s account) (o .amount))
 
 -- a new vote: its body, and the sender's record
 pub record Voted (body : List ℕ) (r : Record) : Type 0 where
@@ -116,12 +123,26 @@ pub record Settled (p : Payment) (r : Record) : Type 0 where
   pub range : PaymentRange p
   pub next : p .sequence .0 ≡ r .next .0
 
--- one to another account: the sender's record, and the recipient's
-pub record Moved (p : Payment) (from to : Record) : Type 0 where
+-- one to another account kept here: the sender's record, and the recipient's
+pub record Transferred (p : Payment) (from to : Record) : Type 0 where
   pub kind : p .kind ≡ 0
   pub other : p .recipient ≡ p .sender .0 → ⊥
   pub enough : p .amount ≤ from .balance
   pub room : to .balance + p .amount ≤ highest
+
+-- one to an account that is not kept here: the sender's record
+pub record Sent (rules : Rules) (s : List ℕ) (p : Payment) (from : Record) : Type 0 where
+  pub kind : p .kind ≡ 0
+  pub away : rules .keeps (p .recipient) ≡ false
+  pub place : rules .maySend s ≡ true
+  pub enough : p .amount ≤ from .balance
+  pub noted : rules .mayTally s (p .amount) 0 ≡ true
+
+-- a message laid out as a funding order, with a single good verdict
+pub record Presented (m verdicts : List ℕ) : Type 0 where
+  pub laid-down : laid m fundingFields ≡ true
+  pub single : length verdicts ≡ 1
+  pub verdict-good : good verdicts ≡ true
 
 -- a funding order of the next index: the last one, and the account's record
 pub record Funded (last : ℕ) (o : Funding) (r : Record) : Type 0 where
@@ -132,6 +153,20 @@ pub record Funded (last : ℕ) (o : Funding) (r : Record) : Type 0 where
 -- a payment to an account that is not the sender
 not-itself : (p : Payment) → toItself p ≡ false → p .kind ≡ 0 → p .recipient ≡ p .sender .0 → ⊥
 not-itself p e k r = false≢true (sym e ∙ rw (eq-eqb _ _ k, eq-eqb _ _ r))
+
+-- a certificate that is judged good meets none of 1, 2 and 3, so that its sender is kept here where it is not 22
+pub judged-paper : (c : Committee) (m verdicts : List ℕ) → said (judgedBy c m verdicts) ≡ 0 → isPaper m verdicts ≡ true
+unfolding judgedBy isPaper
+judged-paper c m verdicts e =
+    let a = through said (laid m certificateFields) (refuses 1) _ (lit< tt) e in
+    let b = through said (laid (inside m) bodyFields) (refuses 1) _ (lit< tt) (a .1) in
+    let d = through said (isPayment (payment (inside m))) (refuses 2) _ (lit< tt) (b .1) in
+    let g = through said (eqb (length verdicts) (votes m)) (refuses 3) _ (lit< tt) (d .1) in
+    rw (a .0, b .0, d .0, g .0)
+
+pub kept-here : (t u : Bool) → u ≡ true → (not t && u) ≡ false → t ≡ true
+kept-here true u p e = refl
+kept-here false u p e = sym e ∙ p
 
 -- both ways of a test, and the one way of a test that holds
 module _ {A : Type 0} (P : A → Type 0) where
@@ -168,8 +203,8 @@ module _ (P : Outcome → Type 0) (rules : Rules) (s : List ℕ) (refusal : (n :
   test t n rest h = need-case P t (refused n s) rest (refusal n h)
 
   pub order-cases : (m verdicts : List ℕ)
-      → (Repeated rules s (inside m) → P (outcome voteRepeated s))
-      → (Voted (inside m) (recordOf rules s (payment (inside m) .sender .0)) → P (outcome voteNew (afterVote rules s (inside m))))
+      → (rules .keeps (payment (inside m) .sender .0) ≡ true → Repeated rules s (inside m) → P (outcome voteRepeated s))
+      → (rules .keeps (payment (inside m) .sender .0) ≡ true → Voted (inside m) (recordOf rules s (payment (inside m) .sender .0)) → P (outcome voteNew (afterVote rules s (inside m))))
       → P (order rules s m verdicts)
   unfolding order vote voteOn
   order-cases m verdicts again new =
@@ -181,79 +216,101 @@ module _ (P : Outcome → Type 0) (rules : Rules) (s : List ℕ) (refusal : (n :
       let b = order-body m read in
       let range = body-range body b in
       test (eqb (length verdicts) 1) 3 _ (lit< tt) (λ _.
+      test (rules .keeps (p .sender .0)) 22 _ (lit< tt) (λ kept.
       test (good verdicts) 4 _ (lit< tt) (λ _.
       test (isFormed rules s (p .sender .0)) 16 _ (lit< tt) (λ _.
       test (r .used) 8 _ (lit< tt) (λ used.
       cond-case P (ltb 0 (r .waiting)) _ _ (λ some. test (same (pendingOf rules s (p .sender .0)) body) 9 _ (lit< tt) (λ pending.
-      again (record { range = range; waiting = ltb-true _ _ some; pending = pending }))) (λ none.
+      again kept (record { range = range; waiting = ltb-true _ _ some; pending = pending }))) (λ none.
       passed P s (rules .further body) _ refusal (λ _.
       test (eqb (p .sequence .0) (r .next .0)) 10 _ (lit< tt) (λ next.
       test (leb (nought + p .amount) (r .balance)) 11 _ (lit< tt) (λ covered.
       let w : r .waiting ≤ 0 = ltb-false 0 (r .waiting) none in
-      new (record { formed = b; range = range; used = used; waiting = omega arith; next = eqb-true _ _ next; covered = leb-true _ _ covered })))))))))))
+      new kept (record { formed = b; range = range; used = used; waiting = omega arith; next = eqb-true _ _ next; covered = leb-true _ _ covered }))))))))))))
 
   pub certificate-cases : (m verdicts : List ℕ)
-      → (let p = payment (inside m) in let from = recordOf rules s (p .sender .0) in let judged = judgedBy (rules .committee s) m verdicts .number ≡ 0 in
-      P (outcome (already (length (signersIn m))) s)
-      → (judged → Settled p from → toItself p ≡ true → P (outcome (confirmed (length (signersIn m))) (afterPaid rules s p 0)))
-      → (judged → Settled p from → p .kind ≡ 1 → p .amount ≤ from .balance → P (outcome (confirmed (length (signersIn m))) (afterPaid rules s p (p .amount))))
-      → (judged → Settled p from → Moved p from (recordOf rules s (p .recipient)) → P (outcome (confirmed (length (signersIn m))) (afterMoved rules s p)))
+      → (let p = payment (inside m) in let from = recordOf rules s (p .sender .0) in
+      let judged = judgedBy (rules .committee s) m verdicts .number ≡ 0 in let kept = rules .keeps (p .sender .0) ≡ true in
+      let confirms : List ℕ → Outcome = outcome (confirmedWith (rules .counted s (signersIn m))) in
+      P (outcome (alreadyWith (rules .counted s (signersIn m))) s)
+      → (judged → kept → Settled p from → toItself p ≡ true → P (confirms (afterPaid rules s p 0)))
+      → (judged → kept → Settled p from → p .kind ≡ 1 → p .amount ≤ from .balance → rules .mayTally s (p .amount) 0 ≡ true → P (confirms (afterDebit rules s p)))
+      → (judged → kept → Settled p from → rules .keeps (p .recipient) ≡ true → Transferred p from (recordOf rules s (p .recipient)) → P (confirms (afterTransfer rules s p)))
+      → (judged → kept → Settled p from → Sent rules s p from → P (confirms (afterSending rules s p)))
       → P (certificate rules s m verdicts))
   unfolding certificate settle settleOn pay
-  certificate-cases m verdicts before itself ledger moved =
+  certificate-cases m verdicts before itself ledger transfer sent =
       let p = payment (inside m) in
       let from = recordOf rules s (p .sender .0) in
       let to = recordOf rules s (p .recipient) in
       test (isState rules s) 16 _ (lit< tt) (λ _.
+      cond-case P (not (rules .keeps (p .sender .0)) && isPaper m verdicts) _ _ (λ _. refusal 22 (lit< tt)) (λ here.
       passed P s (judgedBy (rules .committee s) m verdicts .number) _ refusal (λ judged.
       test (isFormed rules s (p .sender .0)) 16 _ (lit< tt) (λ _.
-      test (eqb (p .kind) 1 || isFormed rules s (p .recipient)) 16 _ (lit< tt) (λ _.
+      test (not (rules .keeps (p .recipient)) || (eqb (p .kind) 1 || isFormed rules s (p .recipient))) 16 _ (lit< tt) (λ _.
       cond-case P (ltb (p .sequence .0) (from .next .0)) _ _ (λ _. before) (λ _.
       test (eqb (p .sequence .0) (from .next .0)) 10 _ (lit< tt) (λ next.
+      test (hasPlace rules s p) 23 _ (lit< tt) (λ place.
       let range = body-range (inside m) (certificate-body (rules .committee s) m verdicts judged) in
+      let kept = kept-here (rules .keeps (p .sender .0)) (isPaper m verdicts) (judged-paper (rules .committee s) m verdicts judged) here in
       let settled : Settled p from = record { range = range; next = eqb-true _ _ next } in
-      cond-case P (toItself p) _ _ (λ same. itself judged settled same) (λ other.
+      cond-case P (toItself p) _ _ (λ same. itself judged kept settled same) (λ other.
       test (leb (p .amount) (from .balance)) 16 _ (lit< tt) (λ enough.
-      cond-case P (eqb (p .kind) 1) _ _ (λ kind. ledger judged settled (eqb-true _ _ kind) (leb-true _ _ enough)) (λ account.
-      test (leb (to .balance + p .amount) highest) 16 _ (lit< tt) (λ room.
+      cond-case P (eqb (p .kind) 1) _ _ (λ kind. test (rules .mayTally s (p .amount) 0) 16 _ (lit< tt) (λ noted.
+      ledger judged kept settled (eqb-true _ _ kind) (leb-true _ _ enough) noted)) (λ account.
       let not-ledger = eqb-false (p .kind) 1 account in
       let kind : p .kind ≡ 0 = omega (arith, range .kind) in
-      moved judged settled (record { kind = kind; other = not-itself p other kind; enough = leb-true _ _ enough; room = leb-true _ _ room })))))))))))
+      cond-case P (not (rules .keeps (p .recipient))) _ _ (λ elsewhere. test (rules .mayTally s (p .amount) 0) 16 _ (lit< tt) (λ noted.
+      let away = not-true (rules .keeps (p .recipient)) elsewhere in
+      sent judged kept settled (record { kind = kind; away = away; place = rw (away, account) at place; enough = leb-true _ _ enough; noted = noted }))) (λ near.
+      test (leb (to .balance + p .amount) highest) 16 _ (lit< tt) (λ room.
+      transfer judged kept settled (not-false (rules .keeps (p .recipient)) near)
+      (record { kind = kind; other = not-itself p other kind; enough = leb-true _ _ enough; room = leb-true _ _ room }))))))))))))))
 
   pub funding-cases : (m verdicts : List ℕ)
-      → (laid m fundingFields ≡ true → length verdicts ≡ 1 → good verdicts ≡ true → Funded (lastIndex s) (funding m) (recordOf rules s (funding m .account .0)) → P (outcome done (afterFunding rules s (funding m))))
-      → P (fundingOrder rules s m verdicts)
+      → (let o = funding m in let r = recordOf rules s (o .account .0) in
+      (Presented m verdicts → rules .keeps (o .account .0) ≡ false → FundingRange o → o .index .0 ≡ lastIndex s + 1 → P (outcome done (withIndex s (o .index .0))))
+      → (Presented m verdicts → rules .keeps (o .account .0) ≡ true → Funded (lastIndex s) o r → rules .mayTally s 0 (o .amount) ≡ true → P (outcome done (afterFunding rules s o)))
+      → P (fundingOrder rules s m verdicts))
   unfolding fundingOrder credit creditOn
-  funding-cases m verdicts funded =
+  funding-cases m verdicts elsewhere funded =
       let o = funding m in
       let r = recordOf rules s (o .account .0) in
       test (isState rules s) 16 _ (lit< tt) (λ _.
       passed P s (readFunding m .number) _ refusal (λ read.
       test (eqb (length verdicts) 1) 3 _ (lit< tt) (λ one.
       test (good verdicts) 4 _ (lit< tt) (λ verdict.
-      test (isFormed rules s (o .account .0)) 16 _ (lit< tt) (λ _.
+      test (not (rules .keeps (o .account .0)) || isFormed rules s (o .account .0)) 16 _ (lit< tt) (λ _.
       test (eqb (o .index .0) (lastIndex s + 1)) 12 _ (lit< tt) (λ index.
-      test (leb (r .balance + o .amount) highest) 16 _ (lit< tt) (λ room.
       let f = funding-order m read in
-      funded (f .0) (eqb-true _ _ one) verdict (record { range = funding-range o (f .1); index = eqb-true _ _ index; room = leb-true _ _ room }))))))))
+      let was : Presented m verdicts = record { laid-down = f .0; single = eqb-true _ _ one; verdict-good = verdict } in
+      let range = funding-range o (f .1) in
+      cond-case P (not (rules .keeps (o .account .0))) _ _ (λ away. elsewhere was (not-true _ away) range (eqb-true _ _ index)) (λ near.
+      test (leb (r .balance + o .amount) highest) 16 _ (lit< tt) (λ room.
+      test (rules .mayTally s 0 (o .amount)) 16 _ (lit< tt) (λ noted.
+      funded was (not-false _ near) (record { range = range; index = eqb-true _ _ index; room = leb-true _ _ room }) noted)))))))))
 
 -- and so does what holds of every answer that leaves the bytes, and of those that change them
 module _ (P : Outcome → Type 0) (rules : Rules) (s : List ℕ) (left : (answer : Said) → P (outcome answer s)) where
   pub order-comes : (m verdicts : List ℕ)
       → (Voted (inside m) (recordOf rules s (payment (inside m) .sender .0)) → P (outcome voteNew (afterVote rules s (inside m))))
       → P (order rules s m verdicts)
-  order-comes m verdicts new = order-cases P rules s (λ n _. left (refuses n)) m verdicts (λ _. left voteRepeated) new
+  order-comes m verdicts new = order-cases P rules s (λ n _. left (refuses n)) m verdicts (λ _ _. left voteRepeated) (λ _. new)
 
   pub certificate-comes : (m verdicts : List ℕ)
       → (let p = payment (inside m) in let from = recordOf rules s (p .sender .0) in
-      (Settled p from → toItself p ≡ true → P (outcome (confirmed (length (signersIn m))) (afterPaid rules s p 0)))
-      → (Settled p from → p .kind ≡ 1 → p .amount ≤ from .balance → P (outcome (confirmed (length (signersIn m))) (afterPaid rules s p (p .amount))))
-      → (Settled p from → Moved p from (recordOf rules s (p .recipient)) → P (outcome (confirmed (length (signersIn m))) (afterMoved rules s p)))
+      let confirms : List ℕ → Outcome = outcome (confirmedWith (rules .counted s (signersIn m))) in
+      (Settled p from → toItself p ≡ true → P (confirms (afterPaid rules s p 0)))
+      → (Settled p from → p .kind ≡ 1 → p .amount ≤ from .balance → rules .mayTally s (p .amount) 0 ≡ true → P (confirms (afterDebit rules s p)))
+      → (Settled p from → Transferred p from (recordOf rules s (p .recipient)) → P (confirms (afterTransfer rules s p)))
+      → (Settled p from → Sent rules s p from → P (confirms (afterSending rules s p)))
       → P (certificate rules s m verdicts))
-  certificate-comes m verdicts itself ledger moved =
-      certificate-cases P rules s (λ n _. left (refuses n)) m verdicts (left (already (length (signersIn m)))) (λ _. itself) (λ _. ledger) (λ _. moved)
+  certificate-comes m verdicts itself ledger transfer sent =
+      certificate-cases P rules s (λ n _. left (refuses n)) m verdicts (left (alreadyWith (rules .counted s (signersIn m)))) (λ _ _. itself) (λ _ _. ledger) (λ _ _ v _. transfer v) (λ _ _. sent)
 
   pub funding-comes : (m verdicts : List ℕ)
-      → (Funded (lastIndex s) (funding m) (recordOf rules s (funding m .account .0)) → P (outcome done (afterFunding rules s (funding m))))
-      → P (fundingOrder rules s m verdicts)
-  funding-comes m verdicts funded = funding-cases P rules s (λ n _. left (refuses n)) m verdicts (λ _ _ _. funded)
+      → (let o = funding m in
+      (rules .keeps (o .account .0) ≡ false → FundingRange o → o .index .0 ≡ lastIndex s + 1 → P (outcome done (withIndex s (o .index .0))))
+      → (Funded (lastIndex s) o (recordOf rules s (o .account .0)) → rules .mayTally s 0 (o .amount) ≡ true → P (outcome done (afterFunding rules s o)))
+      → P (fundingOrder rules s m verdicts))
+  funding-comes m verdicts elsewhere funded = funding-cases P rules s (λ n _. left (refuses n)) m verdicts (λ _. elsewhere) (λ _ _. funded)

@@ -1,5 +1,5 @@
 -- 01, States: the ledger's state, a header and 64 logs, under the rules in force.
-use Prim.Native.Nat.{ℕ, _+_, _*_, _/_, _%_, _^_}
+use Prim.Native.Nat.{ℕ, _+_, _*_, _/_, _%_, _^_, _≤_}
 use mathlib.Core.Bool.{Bool, _&&_}
 use mathlib.Core.List.{List}
 use lib.ListN.{length}
@@ -10,7 +10,7 @@ use Rattle.wire.specs.Numbers.{isFaults}
 use Rattle.wire.specs.Votes.{Committee, committee}
 use Rattle.states.specs.Headers.{faultsIn, freshBytes}
 
--- the rules in force: where the logs start, behind the header; what a well-formed header is; the committee that it names
+-- the rules in force on the ledger: where the logs start, behind the header; what a well-formed header is; the committee that it names
 pub record Rules : Type 0 where
   pub logs : ℕ
   pub isHeader : List ℕ → Bool
@@ -32,9 +32,17 @@ isPot amount = leb amount 1_000_000_000_000_000
 unfoldable pub isBaseHeader : List ℕ → Bool
 isBaseHeader s = isFaults (faultsIn s) && (eqb (number one s 1) 0 && (isPot (pot s) && allZero (cut s 12 4)))
 
+-- how the ledger's states are laid out: as 01 says
+pub data Layout : Type 0 where
+  plain : Layout
+
+-- the rules of a layout
+abbrev pub rulesOf : Layout → Rules
+rulesOf Layout.plain = record { logs = 16; isHeader = isBaseHeader; committee = λ s. committee (faultsIn s) }
+
 -- the rules of 01
 abbrev pub base : Rules
-base = record { logs = 16; isHeader = isBaseHeader; committee = λ s. committee (faultsIn s) }
+base = rulesOf Layout.plain
 
 -- 32,784 bytes by the rules of 01
 abbrev pub stateLength : Rules → ℕ
@@ -64,3 +72,11 @@ withRedeemed rules s account sequence =
 -- fresh: f and zeros
 unfoldable pub freshState : Rules → ℕ → List ℕ
 freshState rules f = freshBytes (stateLength rules) f
+
+-- a fresh state in a layout
+abbrev pub freshIn : Layout → ℕ → List ℕ
+freshIn Layout.plain f = freshState base f
+
+-- the committees that a layout has: f is 0..5
+abbrev pub Has : Layout → ℕ → Type 0
+Has Layout.plain f = f ≤ 5

@@ -8,8 +8,8 @@ use native.Mathlib.Decide.{ℕ-discrete}
 use native.Mathlib.Omega.{arith}
 use native.Mathlib.Nat.{zero-add}
 use Rattle.model.specs.Lists.{In, sumOf}
-use Rattle.model.specs.Histories.{Payments, Event, votes, debits, fundings, isOf, fundTo, next, MayVote, Lawful}
-use Rattle.model.specs.Views.{Shown, GaveAs, Taken, Effect, events, Turns, Follows, SameTurns, Same, VotedNew, Settled, Took, Changed, Grounded}
+use Rattle.model.specs.Histories.{Payments, Event, votes, debits, credits, fundings, isOf, fundTo, next, MayVote, Lawful}
+use Rattle.model.specs.Views.{Shown, GaveAs, Taken, Effect, events, Turns, Follows, SameTurns, Same, VotedNew, Turned, Settled, Debited, Delivered, Took, Noted, Changed, Grounded}
 use Rattle.model.proofs.SumLaws.{sum-append, suffix-same, only-here, only-elsewhere}
 use Rattle.model.proofs.HistoryLaws.{vote-below, debit-below, credit-debit}
 
@@ -46,7 +46,7 @@ taken-later given more all last g n e t = record {
 }
 
 module _ (K : Payments) (accounts lift : ℕ) where
-  open Payments K using (Body, sender, amount, sequence, Order, account, value)
+  open Payments K using (Body, sender, amount, sequence, Order, account, value, index)
 
   -- ---- turns
 
@@ -77,7 +77,7 @@ module _ (K : Payments) (accounts lift : ℕ) where
   }
 
   turns-over : (s t : Shown Body) (vs cs : List Body) (b : Body) → ((d : Body) → In d vs → sequence d ≤ sumOf (isOf K (sender d)) cs)
-      → Turns K accounts lift s vs cs → Settled K accounts lift s t b → Turns K accounts lift t vs (b ∷ cs)
+      → Turns K accounts lift s vs cs → Turned K accounts lift s t b → Turns K accounts lift t vs (b ∷ cs)
   turns-over s t vs cs b low f v = record {
     next-is = λ x k. omega (arith, v .nexts x k, f .next-is x k);
     open-is = λ x k d e. held x k d e (ℕ-discrete x (sender b));
@@ -105,11 +105,18 @@ module _ (K : Payments) (accounts lift : ℕ) where
 
   -- ---- effects
 
-  follows-same : (given : List Order) (s t : Shown Body) (h : List (Event Body Order)) → Same K accounts lift s t → Follows K accounts lift given s h → Follows K accounts lift given t h
+  -- an order taken bears an index up to the last, also where the indexes are equal
+  orders-stay : (given : List Order) (s t : Shown Body) (h : List (Event Body Order)) → ((y : ℕ) → y < accounts → t .last y ≡ s .last y) → Follows K accounts lift given s h
+      → (o : Order) → In o (fundings h) → (account o < accounts) × (index o ≤ t .last (account o))
+  orders-stay given s t h indexes f o i = let r = f .orders o i in (r .0, rw (indexes (account o) (r .0)) (r .1))
+
+  pub follows-same : (given : List Order) (s t : Shown Body) (h : List (Event Body Order)) → Same K accounts lift s t → Follows K accounts lift given s h → Follows K accounts lift given t h
   follows-same given s t h v f = record {
     turns = turns-same s t (votes h) (debits h) (f .turns) (v .turns);
     money = λ x k. omega (arith, v .balances x k, f .money x k);
+    in-use = λ x k. v .marks x k ∙ f .in-use x k;
     taken = λ x k. rw (v .indexes x k) (f .taken x k);
+    orders = orders-stay given s t h (v .indexes) f;
   }
 
   module _ (Certain : Body → Type 0) (given : List Order) (h : List (Event Body Order)) (s t : Shown Body) where
@@ -124,7 +131,9 @@ module _ (K : Payments) (accounts lift : ℕ) where
       record {
         turns = turns-vote s t (votes h) (debits h) b (f .turns) v;
         money = λ x k. omega (arith, v .balances x k, f .money x k);
+        in-use = λ x k. v .marks x k ∙ f .in-use x k;
         taken = λ x k. rw (v .indexes x k) (f .taken x k);
+        orders = orders-stay given s t h (v .indexes) f;
       },
     )
 
@@ -133,44 +142,118 @@ module _ (K : Payments) (accounts lift : ℕ) where
         → In b (votes h) × Follows K accounts lift given s (Event.voted b ∷ h)
     vote-again b f k e =
         let i = f .turns .open-is (sender b) k b e in
-        (i .0, record { turns = turns-again s (votes h) (debits h) b (f .turns) (i .0); money = f .money; taken = f .taken })
+        (i .0, record { turns = turns-again s (votes h) (debits h) b (f .turns) (i .0); money = f .money; in-use = f .in-use; taken = f .taken; orders = f .orders })
+
+    -- a certificate's turn is the next, so it was neither confirmed nor credited before
+    turn-is : (b : Body) → Follows K accounts lift given s h → Turned K accounts lift s t b → sequence b ≡ next K h (sender b)
+    turn-is b f v = v .turn ∙ f .turns .next-is (sender b) (v .sender-in)
+
+    uncredited : (b : Body) → Lawful K Certain given h → sequence b ≡ next K h (sender b) → In b (credits h) → ⊥
+    uncredited b l turn i = omega (arith, turn, debit-below K Certain given h l b (credit-debit K Certain given h l b i))
 
     -- a certificate confirmed, and credited at once
     settle : (b : Body) → Lawful K Certain given h → Follows K accounts lift given s h → Settled K accounts lift s t b → Certain b
         → Lawful K Certain given (Event.credited b ∷ Event.confirmed b ∷ h) × Follows K accounts lift given t (Event.credited b ∷ Event.confirmed b ∷ h)
-    settle b l f v c = (
-      ((inl refl, λ i. omega (arith, turn, debit-below K Certain given h l b (credit-debit K Certain given h l b i))), ((turn, c), l)),
+    settle b l f v c =
+        let turn = turn-is b f (v .turned) in (
+          ((inl refl, uncredited b l turn), ((turn, c), l)),
+          record {
+            turns = turns-over s t (votes h) (debits h) b (vote-below K Certain given h l) (f .turns) (v .turned);
+            money = λ x k. omega (arith, v .balances x k, f .money x k);
+            in-use = λ x k. omega (arith, v .marks x k, f .in-use x k);
+            taken = λ x k. rw (v .turned .indexes x k) (f .taken x k);
+            orders = orders-stay given s t h (v .turned .indexes) f;
+          },
+        )
+
+    -- or confirmed alone
+    debit : (b : Body) → Lawful K Certain given h → Follows K accounts lift given s h → Debited K accounts lift s t b → Certain b
+        → Lawful K Certain given (Event.confirmed b ∷ h) × Follows K accounts lift given t (Event.confirmed b ∷ h)
+    debit b l f v c = (
+      ((turn-is b f (v .turned), c), l),
       record {
-        turns = turns-over s t (votes h) (debits h) b (vote-below K Certain given h l) (f .turns) v;
+        turns = turns-over s t (votes h) (debits h) b (vote-below K Certain given h l) (f .turns) (v .turned);
         money = λ x k. omega (arith, v .balances x k, f .money x k);
-        taken = λ x k. rw (v .indexes x k) (f .taken x k);
+        in-use = λ x k. omega (arith, v .marks x k, f .in-use x k);
+        taken = λ x k. rw (v .turned .indexes x k) (f .taken x k);
+        orders = orders-stay given s t h (v .turned .indexes) f;
       },
     )
-      where
-        turn : sequence b ≡ next K h (sender b)
-        turn = v .turn ∙ f .turns .next-is (sender b) (v .sender-in)
+
+    -- and credited later
+    deliver : (b : Body) → Lawful K Certain given h → Follows K accounts lift given s h → Delivered K accounts lift s t b → In b (debits h) × (In b (credits h) → ⊥)
+        → Lawful K Certain given (Event.credited b ∷ h) × Follows K accounts lift given t (Event.credited b ∷ h)
+    deliver b l f v g = (
+      (g, l),
+      record {
+        turns = turns-same s t (votes h) (debits h) (f .turns) (v .turns);
+        money = λ x k. omega (arith, v .balances x k, f .money x k);
+        in-use = λ x k. omega (arith, v .marks x k, f .in-use x k);
+        taken = λ x k. rw (v .indexes x k) (f .taken x k);
+        orders = orders-stay given s t h (v .indexes) f;
+      },
+    )
 
     -- a funding order taken
     take : (o : Order) → Lawful K Certain given h → Follows K accounts lift given s h → Took K accounts lift given s t o
         → Lawful K Certain given (Event.funded o ∷ h) × Follows K accounts lift given t (Event.funded o ∷ h)
     take o l f v = (
-      (taken-le given _ (fundTo K (account o)) _ (take-next given _ (fundTo K (account o)) _ o (f .taken (account o) (v .in-range)) (v .owner)), l),
+      ((
+        λ i. omega (arith, f .orders o i .1, v .turn),
+        taken-le given _ (fundTo K (account o)) _ (take-next given _ (fundTo K (account o)) _ o (f .taken (account o) (v .in-range)) (v .owner)),
+      ), l),
       record {
         turns = turns-same s t (votes h) (debits h) (f .turns) (v .turns);
         money = λ x k. omega (arith, v .balances x k, f .money x k);
+        in-use = λ x k. omega (arith, v .marks x k, f .in-use x k);
         taken = λ x k. step x (sumOf (fundTo K x) (fundings h)) (f .taken x k) (v .indexes x k);
+        orders = λ p. elim [
+          | inl e ↦ rw e (v .in-range, own (v .indexes (account o) (v .in-range)))
+          | inr i ↦ let r = f .orders p i in (r .0, grows (account p) (index p) (r .1) (v .indexes (account p) (r .0)))
+        ];
       },
     )
       where
+        own : ((t .last (account o) ≡ suc (s .last (account o))) × GaveAs given o (suc (s .last (account o)))) ⊎ ((t .last (account o) ≡ s .last (account o)) × (account o ≡ account o → ⊥))
+            → index o ≤ t .last (account o)
+        own (inl r) = omega (arith, v .turn, r .0)
+        own (inr r) = absurd (r .1 refl)
+
+        grows : (x n : ℕ) → n ≤ s .last x
+            → ((t .last x ≡ suc (s .last x)) × GaveAs given o (suc (s .last x))) ⊎ ((t .last x ≡ s .last x) × (account o ≡ x → ⊥)) → n ≤ t .last x
+        grows x n l (inl r) = omega (arith, r .0)
+        grows x n l (inr r) = omega (arith, r .0)
+
         step : (x n : ℕ) → Taken given (s .last x) (fundTo K x) n
             → ((t .last x ≡ suc (s .last x)) × GaveAs given o (suc (s .last x))) ⊎ ((t .last x ≡ s .last x) × (account o ≡ x → ⊥))
             → Taken given (t .last x) (fundTo K x) (fundTo K x o + n)
         step x n y (inl r) = rw (r .0) (take-next given (s .last x) (fundTo K x) n o y (r .1))
         step x n y (inr r) = rw (r .0, only-elsewhere (account o) x (value o) (r .1)) (rw zero-add y)
 
+    -- or noted
+    note : (o : Order) → Follows K accounts lift given s h → Noted K accounts lift given s t o → Follows K accounts lift given t h
+    note o f v = record {
+      turns = turns-same s t (votes h) (debits h) (f .turns) (v .turns);
+      money = λ x k. omega (arith, v .balances x k, f .money x k);
+      in-use = λ x k. v .marks x k ∙ f .in-use x k;
+      taken = λ x k. step x (sumOf (fundTo K x) (fundings h)) (f .taken x k) (v .indexes x k);
+      orders = λ p i. let r = f .orders p i in (r .0, grows (account p) (index p) (r .1) (v .indexes (account p) (r .0)));
+    }
+      where
+        step : (x n : ℕ) → Taken given (s .last x) (fundTo K x) n → ((t .last x ≡ suc (s .last x)) × GaveAs given o (suc (s .last x)) × (account o ≡ x → ⊥)) ⊎ (t .last x ≡ s .last x)
+            → Taken given (t .last x) (fundTo K x) n
+        step x n y (inl r) =
+            let z : fundTo K x o + n ≡ n = omega (arith, only-elsewhere (account o) x (value o) (r .2)) in
+            rw (r .0) (rw z at (take-next given (s .last x) (fundTo K x) n o y (r .1)))
+        step x n y (inr r) = rw r y
+
+        grows : (x n : ℕ) → n ≤ s .last x → ((t .last x ≡ suc (s .last x)) × GaveAs given o (suc (s .last x)) × (account o ≡ x → ⊥)) ⊎ (t .last x ≡ s .last x) → n ≤ t .last x
+        grows x n l (inl r) = omega (arith, r .0)
+        grows x n l (inr r) = omega (arith, r)
+
   -- every effect is lawful, and the new state follows the longer history
   pub obeys : (Certain : Body → Type 0) (given : List Order) (h : List (Event Body Order)) (s t : Shown Body) (e : Effect Body Order)
-      → Lawful K Certain given h → Follows K accounts lift given s h → Changed K accounts lift given s t e → Grounded K accounts lift Certain e
+      → Lawful K Certain given h → Follows K accounts lift given s h → Changed K accounts lift given s t e → Grounded K accounts lift Certain h e
       → Lawful K Certain given (events e ++ h) × Follows K accounts lift given t (events e ++ h)
   obeys Certain given h s t Effect.nothing l f v g = (l, follows-same given s t h v f)
   obeys Certain given h s t (Effect.newVote b) l f v g = let r = vote-new Certain given h s t b f v in ((inr (r .0), l), r .1)
@@ -178,15 +261,110 @@ module _ (K : Payments) (accounts lift : ℕ) where
       let r = vote-again Certain given h s t b f (v .0) (v .1) in
       ((inl (r .0), l), follows-same given s t (Event.voted b ∷ h) (v .2) (r .1))
   obeys Certain given h s t (Effect.settled b) l f v g = settle Certain given h s t b l f v g
+  obeys Certain given h s t (Effect.debited b) l f v g = debit Certain given h s t b l f v g
+  obeys Certain given h s t (Effect.delivered b) l f v g = deliver Certain given h s t b l f v g
   obeys Certain given h s t (Effect.took o) l f v g = take Certain given h s t o l f v
+  obeys Certain given h s t (Effect.noted o) l f v g = (l, note Certain given h s t o f v)
+
+  -- ---- effects on states that show the same
+
+  turns-since : (r s t : Shown Body) → SameTurns K accounts lift r s → SameTurns K accounts lift s t → SameTurns K accounts lift r t
+  turns-since r s t m v = record { pendings = λ y k. v .pendings y k ∙ m .pendings y k; nexts = λ y k. v .nexts y k ∙ m .nexts y k }
+
+  turned-since : (r s t : Shown Body) (b : Body) → Same K accounts lift r s → Turned K accounts lift s t b → Turned K accounts lift r t b
+  turned-since r s t b m v = record {
+    sender-in = v .sender-in;
+    turn = v .turn ∙ m .turns .nexts (sender b) (v .sender-in);
+    cleared = v .cleared;
+    others = λ y k n. v .others y k n ∙ m .turns .pendings y k;
+    nexts = λ y k. rw (← m .turns .nexts y k) (v .nexts y k);
+    indexes = λ y k. v .indexes y k ∙ m .indexes y k;
+  }
+
+  same-since : (r s t : Shown Body) → Same K accounts lift r s → Same K accounts lift s t → Same K accounts lift r t
+  same-since r s t m v = record {
+    turns = turns-since r s t (m .turns) (v .turns);
+    balances = λ y k. v .balances y k ∙ m .balances y k;
+    marks = λ y k. v .marks y k ∙ m .marks y k;
+    indexes = λ y k. v .indexes y k ∙ m .indexes y k;
+  }
+
+  -- a state that shows the same as another changes as that one
+  pub changed-since : (given : List Order) (r s t : Shown Body) (e : Effect Body Order) → Same K accounts lift r s → Changed K accounts lift given s t e → Changed K accounts lift given r t e
+  changed-since given r s t Effect.nothing m v = same-since r s t m v
+  changed-since given r s t (Effect.newVote b) m v = record {
+    sender-in = v .sender-in;
+    free = sym (m .turns .pendings (sender b) (v .sender-in)) ∙ v .free;
+    turn = v .turn ∙ m .turns .nexts (sender b) (v .sender-in);
+    enough = rw (← m .balances (sender b) (v .sender-in)) (v .enough);
+    stored = v .stored;
+    others = λ y k n. v .others y k n ∙ m .turns .pendings y k;
+    nexts = λ y k. v .nexts y k ∙ m .turns .nexts y k;
+    balances = λ y k. v .balances y k ∙ m .balances y k;
+    marks = λ y k. v .marks y k ∙ m .marks y k;
+    indexes = λ y k. v .indexes y k ∙ m .indexes y k;
+  }
+  changed-since given r s t (Effect.sameVote b) m v =
+      (v .0, sym (m .turns .pendings (sender b) (v .0)) ∙ v .1, same-since r s t m (v .2))
+  changed-since given r s t (Effect.settled b) m v = record {
+    turned = turned-since r s t b m (v .turned);
+    balances = λ y k. rw (← m .balances y k) (v .balances y k);
+    marks = λ y k. rw (← m .marks y k) (v .marks y k);
+  }
+  changed-since given r s t (Effect.debited b) m v = record {
+    turned = turned-since r s t b m (v .turned);
+    balances = λ y k. rw (← m .balances y k) (v .balances y k);
+    marks = λ y k. rw (← m .marks y k) (v .marks y k);
+  }
+  changed-since given r s t (Effect.delivered b) m v = record {
+    turns = turns-since r s t (m .turns) (v .turns);
+    balances = λ y k. rw (← m .balances y k) (v .balances y k);
+    marks = λ y k. rw (← m .marks y k) (v .marks y k);
+    indexes = λ y k. v .indexes y k ∙ m .indexes y k;
+  }
+  changed-since given r s t (Effect.took o) m v = record {
+    in-range = v .in-range;
+    owner = rw (← m .indexes (account o) (v .in-range)) (v .owner);
+    turn = rw (← m .indexes (account o) (v .in-range)) (v .turn);
+    turns = turns-since r s t (m .turns) (v .turns);
+    balances = λ y k. rw (← m .balances y k) (v .balances y k);
+    marks = λ y k. rw (← m .marks y k) (v .marks y k);
+    indexes = λ y k. rw (← m .indexes y k) (v .indexes y k);
+  }
+  changed-since given r s t (Effect.noted o) m v = record {
+    turns = turns-since r s t (m .turns) (v .turns);
+    balances = λ y k. v .balances y k ∙ m .balances y k;
+    marks = λ y k. v .marks y k ∙ m .marks y k;
+    indexes = λ y k. rw (← m .indexes y k) (v .indexes y k);
+  }
+
+  turned-until : (r s t : Shown Body) (b : Body) → Turned K accounts lift r s b → Same K accounts lift s t → Turned K accounts lift r t b
+  turned-until r s t b v m = record {
+    sender-in = v .sender-in;
+    turn = v .turn;
+    cleared = m .turns .pendings (sender b) (v .sender-in) ∙ v .cleared;
+    others = λ y k n. m .turns .pendings y k ∙ v .others y k n;
+    nexts = λ y k. m .turns .nexts y k ∙ v .nexts y k;
+    indexes = λ y k. m .indexes y k ∙ v .indexes y k;
+  }
+
+  -- and a debit stays one where the state then shows the same
+  pub debited-until : (r s t : Shown Body) (b : Body) → Debited K accounts lift r s b → Same K accounts lift s t → Debited K accounts lift r t b
+  debited-until r s t b v m = record {
+    turned = turned-until r s t b (v .turned) m;
+    balances = λ y k. rw (m .balances y k) (v .balances y k);
+    marks = λ y k. m .marks y k ∙ v .marks y k;
+  }
 
   -- a state that shows nothing done follows the empty history
-  pub follows-fresh : (given : List Order) (s : Shown Body) → ((x : ℕ) → x < accounts → (s .next-of x ≡ 0) × (s .pending x ≡ none) × (s .balance x ≡ lift) × (s .last x ≡ 0))
+  pub follows-fresh : (given : List Order) (s : Shown Body) → ((x : ℕ) → x < accounts → (s .next-of x ≡ 0) × (s .pending x ≡ none) × (s .balance x ≡ lift) × (s .last x ≡ 0) × (s .used x ≡ 0))
       → Follows K accounts lift given s []
   follows-fresh given s z = record {
     turns = record { next-is = λ x k. z x k .0; open-is = λ x k b e. none-some (s .pending x) b (z x k .1) e; shut-is = λ x k e c i p r. i };
     money = λ x k. omega (arith, z x k .2);
+    in-use = λ x k. z x k .4;
     taken = λ x k. record { newer = given; older = []; placed = append-nil given; number = sym (z x k .3); sums = refl };
+    orders = λ o i. absurd i;
   }
 
   -- more orders of the ledger do not disturb a machine
@@ -194,5 +372,7 @@ module _ (K : Payments) (accounts lift : ℕ) where
   follows-given given more all s h e f = record {
     turns = f .turns;
     money = f .money;
+    in-use = f .in-use;
+    orders = f .orders;
     taken = λ x k. taken-later given more all (s .last x) (fundTo K x) _ e (f .taken x k);
   }

@@ -4,3 +4,4 @@ pub mod HistoryLaws
 pub mod Safety
 pub mod Moves
 pub mod Following
+pub mod Limits

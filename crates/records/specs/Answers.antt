@@ -1,6 +1,6 @@
 -- 01, Refusal numbers and Rules: the number and values of each case of each answer of a machine.
 use Prim.Native.Nat.{ℕ}
-use mathlib.Core.List.{[], _∷_}
+use mathlib.Core.List.{List, [], _∷_}
 use lib.IntN.{ℤ, pos}
 use Rattle.wire.specs.Refusals.{Said, gives, refuses, refusalNumber}
 use Rattle.states.specs.Outcomes.{done}
@@ -19,13 +19,19 @@ voteNew = gives (0 ∷ [])
 abbrev pub voteRepeated : Said
 voteRepeated = gives (1 ∷ [])
 
--- confirmed, with the number of votes counted
-abbrev pub confirmed : ℕ → Said
-confirmed votes = gives (0 ∷ votes ∷ [])
+-- confirmed, and already, with what is counted of the votes
+abbrev pub confirmedWith : List ℕ → Said
+confirmedWith counts = gives (0 ∷ counts)
 
--- already, with the number of votes counted
+abbrev pub alreadyWith : List ℕ → Said
+alreadyWith counts = gives (1 ∷ counts)
+
+-- with the number of votes counted
+abbrev pub confirmed : ℕ → Said
+confirmed votes = confirmedWith (votes ∷ [])
+
 abbrev pub already : ℕ → Said
-already votes = gives (1 ∷ votes ∷ [])
+already votes = alreadyWith (votes ∷ [])
 
 -- the answer on an order
 abbrev pub orderSaid : OrderAnswer → Said

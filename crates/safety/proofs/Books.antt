@@ -19,11 +19,12 @@ use Rattle.roundtrip.specs.Funding.{funding-given}
 use Rattle.invariants.specs.Outcomes.{cond-case, passed}
 use Rattle.ledger.specs.States.{Rules, base, place, value, isRedeemed, withRedeemed, freshState}
 use Rattle.ledger.specs.Calls.{fund, redeem, nextFunding}
-use Rattle.bookkeeping.specs.Meaning.{Lays, Call, Balanced}
+use Rattle.bookkeeping.specs.Meaning.{Lays, Moved, Call, Balanced}
 use Rattle.bookkeeping.specs.Outcomes.{MayPay, fund-comes, redeem-comes}
 use Rattle.bookkeeping.specs.Keeping.{fresh-state, fresh-index, fresh-pot}
 use Rattle.bookkeeping.specs.Theorems.{fund-refused, redeem-refused, fund-others, redeem-logs, redeem-others, redeem-stays, fund-read-back}
 use Rattle.bookkeeping.specs.Runs.{call-balanced}
+use Rattle.bookkeeping.specs.Layouts.{moved-balanced}
 use Rattle.safety.specs.Runs.{noted}
 use Rattle.safety.specs.Demand3.{amountOf}
 use Rattle.safety.proofs.Papers.{Numbered}
@@ -158,3 +159,13 @@ unfolding withRedeemed
 redeem-seats rules lays s m verdicts =
     redeem-comes (λ o. rules .committee (o .state) ≡ rules .committee s) rules s m verdicts (λ _ _. refl)
     (λ _. lays .pot-seats _ _ ∙ lays .logs-seats s (place rules (payment (inside m) .sender .0) (payment (inside m) .sequence .0)) _ (omega arith))
+
+-- the books of a state that was moved
+pub moved-books : (rules : Rules) (s : List ℕ) (rules′ : Rules) (t : List ℕ) (given paid : List (List ℕ)) → Moved rules s rules′ t → Books rules s given paid → Books rules′ t given paid
+moved-books rules s rules′ t given paid m b = record {
+  balanced = moved-balanced rules s rules′ t _ _ _ m (b .balanced);
+  numbered = b .numbered;
+  log-has = λ c i. m .logs _ _ ∙ b .log-has c i;
+  log-only = λ x q h e. b .log-only x q h (sym (m .logs x q) ∙ e);
+  ledgers = b .ledgers;
+}

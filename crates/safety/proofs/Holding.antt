@@ -1,112 +1,88 @@
 -- What holds at every moment of a run, in the model's words and for a committee by weight: every call keeps it. Assumes nothing.
-use Prim.Native.Nat.{ℕ, suc, _<_}
-use mathlib.Core.Path.{_≡_, refl, sym, ap, subst, _∙_}
+use Prim.Native.Nat.{ℕ, _<_}
+use mathlib.Core.Path.{_≡_, refl, sym, subst, _∙_}
 use mathlib.Core.Bool.{Bool, true, false, cond, false≢true}
-use mathlib.Core.List.{List, [], _∷_, _++_}
-use mathlib.Core.Logic.{inl, inr}
+use mathlib.Core.List.{List, [], _∷_}
+use mathlib.Core.Logic.{inr}
 use lib.ListN.{length, take}
-use lib.Dec.{eqb, lit<}
+use lib.Dec.{eqb}
 use borrow.Author.Tests.{eqb-true}
 use Rattle.model.specs.Lists.{In}
 use Rattle.model.specs.Quorums as quorums
-use Rattle.model.specs.Histories.{Event, fundings, Lawful}
+use Rattle.model.specs.Histories.{Event, votes, Lawful}
 use Rattle.model.specs.Worlds as model
-use Rattle.model.specs.Views.{Effect, events, Follows, Changed}
-use Rattle.model.proofs.Following.{obeys, follows-given}
-use Rattle.model.proofs.Moves.{sound-acted, sound-gave, sound-paid-out, votes-stay}
+use Rattle.model.proofs.Moves.{sound-acted, sound-gave, sound-paid-out}
 use Rattle.wire.specs.Fields.{laid}
 use Rattle.wire.specs.Messages.{fundingFields, inside}
 use Rattle.wire.specs.Votes as wire
-use Rattle.states.specs.Headers.{lastIndex}
-use Rattle.records.specs.Balances.{nought}
-use Rattle.records.specs.States as machine
-use Rattle.invariants.specs.Meaning.{Lays, Limited}
-use Rattle.invariants.specs.Theorems.{base-lays, order-limited, certificate-limited, funding-limited}
-use Rattle.ledger.specs.States as ledger
+use Rattle.wire.specs.Readers.{judgedBy}
+use Rattle.records.specs.States.{Layout, Refusals}
+use Rattle.records.specs.Calls as on-machine
 use Rattle.ledger.specs.Calls as on-ledger
-use Rattle.bookkeeping.specs.Meaning as bookkeeping
-use Rattle.bookkeeping.specs.Keeping.{base-lays as base-books}
-use Rattle.safety.specs.Runs.{Call, Moment, acts, after}
-use Rattle.safety.proofs.Papers.{papers, world, shown}
+use Rattle.bookkeeping.specs.Layouts.{lays}
+use Rattle.safety.specs.Runs.{Call, Moment, rules, ledger-rules, isConfirmed, acts, after}
+use Rattle.safety.proofs.Papers.{papers, world}
 use Rattle.safety.proofs.Certificates.{Seats, Vouched, certified}
-use Rattle.safety.proofs.Showing.{Does, order-does, certificate-does, funding-does, order-seats, certificate-seats, funding-seats}
 use Rattle.safety.proofs.Books.{Books, fund-books, redeem-books, redeem-found, fund-seats, redeem-seats}
+use Rattle.safety.proofs.Followers.{Follower, given-follower, order-follows, certificate-follows, funding-follows}
 
--- a machine under the rules of 01: its bytes follow what it did, keep their distance from the limits, and name this committee
-pub record Follower (rules : machine.Rules) (c : wire.Committee) (given : List (List ℕ)) (s : List ℕ) (did : List (Event (List ℕ) (List ℕ))) : Type 0 where
-  pub in-force : rules ≡ machine.base
-  pub follows : Follows papers 64 nought given (shown rules s) did
-  pub index : lastIndex s ≡ length (fundings did)
-  pub limited : Limited rules s
-  pub seats : rules .committee s ≡ c
+abbrev History : Type 0
+History = List (Event (List ℕ) (List ℕ))
 
--- they lay out a state as 01 does
-pub laid-out : {rules : machine.Rules} → rules ≡ machine.base → Lays rules
-laid-out e = rw e base-lays
+-- votes stay where one more was given, a payment confirmed or a funding order taken, or nothing
+voted-more : (t : Bool) (b : List ℕ) (h : History) (c : List ℕ) → In c (votes h) → In c (votes (cond t (Event.voted b ∷ h) h))
+voted-more true b h c i = inr i
+voted-more false b h c i = i
 
-books-laid-out : {rules : ledger.Rules} → rules ≡ ledger.base → bookkeeping.Lays rules
-books-laid-out e = rw e base-books
+confirmed-more : (t : Bool) (b : List ℕ) (h : History) (c : List ℕ) → In c (votes h) → In c (votes (cond t (Event.credited b ∷ Event.confirmed b ∷ h) h))
+confirmed-more true b h c i = i
+confirmed-more false b h c i = i
 
--- an index counts the funding orders taken, whatever a call did
-counted : (rules : machine.Rules) (given : List (List ℕ)) (s t : List ℕ) (did : List (Event (List ℕ) (List ℕ))) (e : Effect (List ℕ) (List ℕ))
-    → Changed papers 64 nought given (shown rules s) (shown rules t) e → lastIndex s ≡ length (fundings did) → lastIndex t ≡ length (fundings (events e ++ did))
-counted rules given s t did Effect.nothing c h = c .indexes 0 (lit< tt) ∙ h
-counted rules given s t did (Effect.newVote b) c h = c .indexes 0 (lit< tt) ∙ h
-counted rules given s t did (Effect.sameVote b) c h = c .2 .indexes 0 (lit< tt) ∙ h
-counted rules given s t did (Effect.settled b) c h = c .indexes 0 (lit< tt) ∙ h
-counted rules given s t did (Effect.took o) c h = elim (c .indexes _ (c .in-range)) [ inl e ↦ e .0 ∙ ap suc h | inr e ↦ absurd (e .1 refl) ]
+funded-more : (t : Bool) (o : List ℕ) (h : History) (c : List ℕ) → In c (votes h) → In c (votes (cond t (Event.funded o ∷ h) h))
+funded-more true o h c i = i
+funded-more false o h c i = i
 
--- a committee as the headers name it, and as the model weighs it
-module _ (C : quorums.Committee) (c : wire.Committee) (weighed : Seats C c) (dishonest : ℕ → Bool) where
+-- a committee as the model weighs it
+module _ (C : quorums.Committee) (dishonest : ℕ → Bool) where
   -- what was done is sound, and the bytes of the honest machines and of the ledger follow it
   pub record Holds (w : Moment) : Type 0 where
     pub sound : model.Sound papers C dishonest (world w)
-    pub machines : (k : ℕ) → k < C .size → dishonest k ≡ false → Follower (w .rules k) c (w .given) (w .machines k) (w .did k)
-    pub in-force : w .ledger-rules ≡ ledger.base
-    pub books : Books (w .ledger-rules) (w .ledger) (w .given) (w .paid)
-    pub seats : w .ledger-rules .committee (w .ledger) ≡ c
+    pub machines : (k : ℕ) → k < C .size → dishonest k ≡ false → Follower (w .layouts k) (w .refusals k) C (w .given) (w .machines k) (w .did k)
+    pub books : Books (ledger-rules w) (w .ledger) (w .given) (w .paid)
+    pub seats : Seats C (ledger-rules w .committee (w .ledger))
 
-  -- what is asked of a call: it is on an honest machine or on the ledger, and good verdicts tell the truth
+  -- what is asked of a call: it is on an honest machine or on the ledger, and good verdicts tell the truth, whichever header names the committee
   abbrev pub Honest : ℕ → Type 0
   Honest k = (k < C .size) × (dishonest k ≡ false)
 
+  abbrev pub Truthful : Moment → List ℕ → List ℕ → Type 0
+  Truthful w m verdicts = (c : wire.Committee) → Seats C c → Vouched dishonest w c m verdicts
+
   abbrev pub Admitted : Moment → Call → Type 0
   Admitted w (Call.order k m verdicts) = Honest k
-  Admitted w (Call.certificate k m verdicts) = Honest k × Vouched dishonest w c m verdicts
+  Admitted w (Call.certificate k m verdicts) = Honest k × Truthful w m verdicts
   Admitted w (Call.fundingOrder k m verdicts) = Honest k × (laid m fundingFields ≡ true → length verdicts ≡ 1 → wire.good verdicts ≡ true → In m (w .given))
   Admitted w (Call.fund out account amount) = Unit
-  Admitted w (Call.redeem m verdicts) = Vouched dishonest w c m verdicts
+  Admitted w (Call.redeem m verdicts) = Truthful w m verdicts
+
+  -- a good certificate's body is certain, whichever header judged it
+  pub certified-by : (w : Moment) (m verdicts : List ℕ) → Truthful w m verdicts → (c : wire.Committee) → Seats C c → judgedBy c m verdicts .number ≡ 0
+      → model.Certain papers C dishonest (world w) (inside m)
+  certified-by w m verdicts truth c seats good = certified C c seats dishonest w m verdicts good (truth c seats)
 
   -- a machine did something
-  holds-acts : (w : Moment) → Holds w → (k : ℕ) → Honest k → (t : List ℕ) (longer : List (Event (List ℕ) (List ℕ)))
-      → Does (w .rules k) (model.Certain papers C dishonest (world w)) (w .given) (w .machines k) t (w .did k) longer
-      → Limited (w .rules k) t → w .rules k .committee t ≡ w .rules k .committee (w .machines k) → Holds (acts w k t longer)
-  holds-acts w h k honest t longer d limited seats = record {
-    sound = sound-acted papers C dishonest (world w) (h .sound) k longer (λ b i. rw (d .history) (votes-stay papers C dishonest (events (d .effect)) (w .did k) b i)) (rw (d .history) (both .0));
+  holds-acts : (w : Moment) → Holds w → (k : ℕ) → Honest k → (t : List ℕ) (longer : History) → ((b : List ℕ) → In b (votes (w .did k)) → In b (votes longer))
+      → Lawful papers (model.Certain papers C dishonest (world w)) (w .given) longer × Follower (w .layouts k) (w .refusals k) C (w .given) t longer → Holds (acts w k t longer)
+  holds-acts w h k honest t longer keep new = record {
+    sound = sound-acted papers C dishonest (world w) (h .sound) k longer keep (new .0);
     machines = λ n l other. at n l other (eqb k n) refl;
-    in-force = h .in-force;
     books = h .books;
     seats = h .seats;
   }
     where
-      own : Follower (w .rules k) c (w .given) (w .machines k) (w .did k)
-      own = h .machines k (honest .0) (honest .1)
-
-      both : Lawful papers (model.Certain papers C dishonest (world w)) (w .given) (events (d .effect) ++ w .did k) × Follows papers 64 nought (w .given) (shown (w .rules k) t) (events (d .effect) ++ w .did k)
-      both = obeys papers 64 nought (model.Certain papers C dishonest (world w)) (w .given) (w .did k) (shown (w .rules k) (w .machines k)) (shown (w .rules k) t) (d .effect)
-          (h .sound .lawful k (honest .0) (honest .1)) (own .follows) (d .changed) (d .grounded)
-
-      new : Follower (w .rules k) c (w .given) t longer
-      new = record {
-        in-force = own .in-force;
-        follows = rw (d .history) (both .1);
-        index = rw (d .history) (counted (w .rules k) (w .given) (w .machines k) t (w .did k) (d .effect) (d .changed) (own .index));
-        limited = limited;
-        seats = seats ∙ own .seats;
-      }
-
-      at : (n : ℕ) → n < C .size → dishonest n ≡ false → (b : Bool) → eqb k n ≡ b → Follower (w .rules n) c (w .given) (cond b t (w .machines n)) (cond b longer (w .did n))
-      at n l other true e = subst (λ (n : ℕ). Follower (w .rules n) c (w .given) t longer) (eqb-true k n e) new
+      at : (n : ℕ) → n < C .size → dishonest n ≡ false → (b : Bool) → eqb k n ≡ b
+          → Follower (w .layouts n) (w .refusals n) C (w .given) (cond b t (w .machines n)) (cond b longer (w .did n))
+      at n l other true e = subst (λ (n : ℕ). Follower (w .layouts n) (w .refusals n) C (w .given) t longer) (eqb-true k n e) (new .1)
       at n l other false e = h .machines n l other
 
   -- one funding order more, or none, leaves what was done sound and the machines following
@@ -115,67 +91,60 @@ module _ (C : quorums.Committee) (c : wire.Committee) (weighed : Seats C c) (dis
   given-sound w true o s = sound-gave papers C dishonest w s o
   given-sound w false o s = s
 
-  given-follower : (rules : machine.Rules) (given : List (List ℕ)) (t : Bool) (o s : List ℕ) (did : List (Event (List ℕ) (List ℕ))) → Follower rules c given s did
-      → Follower rules c (cond t (o ∷ given) given) s did
-  given-follower rules given true o s did m = record {
-    in-force = m .in-force;
-    follows = follows-given papers 64 nought given (o ∷ []) (o ∷ given) (shown rules s) did refl (m .follows);
-    index = m .index;
-    limited = m .limited;
-    seats = m .seats;
-  }
-  given-follower rules given false o s did m = m
+  given-more : (l : Layout) (r : Refusals) (given : List (List ℕ)) (t : Bool) (o s : List ℕ) (did : History) → Follower l r C given s did → Follower l r C (cond t (o ∷ given) given) s did
+  given-more l r given true o s did f = given-follower l r C given o s did f
+  given-more l r given false o s did f = f
 
   -- a body that the ledger pays is certain, pays the ledger and was not paid before
-  may-pay : (w : Moment) → Holds w → (m verdicts : List ℕ) → Vouched dishonest w c m verdicts → on-ledger.redeem (w .ledger-rules) (w .ledger) m verdicts .answer .number ≡ 0
+  may-pay : (w : Moment) → Holds w → (m verdicts : List ℕ) → Truthful w m verdicts → on-ledger.redeem (ledger-rules w) (w .ledger) m verdicts .answer .number ≡ 0
       → model.MayPay papers C dishonest (world w) (inside m)
-  may-pay w h m verdicts vouched e =
-      let r = redeem-found (w .ledger-rules) (w .ledger) m verdicts e in
+  may-pay w h m verdicts truth e =
+      let r = redeem-found (ledger-rules w) (w .ledger) m verdicts e in
       record {
-        certain = certified C c weighed dishonest w m verdicts (rw (h .seats) at (r .0)) vouched;
+        certain = certified-by w m verdicts truth _ (h .seats) (r .0);
         ledgers = rw (r .1) refl;
         unpaid = λ i. false≢true (sym (r .2) ∙ h .books .log-has (inside m) i);
       }
 
+  -- what an honest machine did is lawful
+  pub lawful : (w : Moment) → Holds w → (k : ℕ) → Honest k → Lawful papers (model.Certain papers C dishonest (world w)) (w .given) (w .did k)
+  lawful w h k honest = h .sound .lawful k (honest .0) (honest .1)
+
   -- every call keeps it
   pub holds-call : (w : Moment) → Holds w → (call : Call) → Admitted w call → Holds (after w call)
   holds-call w h (Call.order k m verdicts) honest =
-      let own = h .machines k (honest .0) (honest .1) in
-      holds-acts w h k honest _ _ (order-does (w .rules k) (laid-out (own .in-force)) _ (w .given) (w .machines k) (own .limited .formed) (w .did k) m verdicts)
-      (order-limited (w .rules k) (laid-out (own .in-force)) (w .machines k) m verdicts (own .limited))
-      (order-seats (w .rules k) (laid-out (own .in-force)) (w .machines k) m verdicts)
+      let o = on-machine.order (rules w k) (w .machines k) m verdicts in
+      holds-acts w h k honest _ _ (voted-more (eqb (o .answer .number) 0) (inside m) (w .did k))
+      (order-follows (w .layouts k) (w .refusals k) C _ (w .given) (w .machines k) (w .did k) (lawful w h k honest) (h .machines k (honest .0) (honest .1)) m verdicts)
   holds-call w h (Call.certificate k m verdicts) admitted =
       let honest = admitted .0 in
       let own = h .machines k (honest .0) (honest .1) in
-      holds-acts w h k honest _ _
-      (certificate-does (w .rules k) (laid-out (own .in-force)) _ (w .given) (w .machines k) (own .limited .formed) (w .did k) m verdicts (λ e. certified C c weighed dishonest w m verdicts (rw (own .seats) at e) (admitted .1)))
-      (certificate-limited (w .rules k) (laid-out (own .in-force)) (w .machines k) m verdicts (own .limited))
-      (certificate-seats (w .rules k) (laid-out (own .in-force)) (w .machines k) m verdicts)
+      let o = on-machine.certificate (rules w k) (w .machines k) m verdicts in
+      holds-acts w h k honest _ _ (confirmed-more (isConfirmed (o .answer)) (inside m) (w .did k))
+      (certificate-follows (w .layouts k) (w .refusals k) C _ (w .given) (w .machines k) (w .did k) (lawful w h k honest) own m verdicts
+      (certified-by w m verdicts (admitted .1) _ (own .seats)))
   holds-call w h (Call.fundingOrder k m verdicts) admitted =
       let honest = admitted .0 in
-      let own = h .machines k (honest .0) (honest .1) in
-      holds-acts w h k honest _ _
-      (funding-does (w .rules k) (laid-out (own .in-force)) _ (w .given) (w .machines k) (own .limited .formed) (w .did k) m verdicts (h .books .numbered) (admitted .1))
-      (funding-limited (w .rules k) (laid-out (own .in-force)) (w .machines k) m verdicts (own .limited))
-      (funding-seats (w .rules k) (laid-out (own .in-force)) (w .machines k) m verdicts)
+      let o = on-machine.fundingOrder (rules w k) (w .machines k) m verdicts in
+      holds-acts w h k honest _ _ (funded-more (eqb (o .answer .number) 0) m (w .did k))
+      (funding-follows (w .layouts k) (w .refusals k) C _ (w .given) (w .machines k) (w .did k) (lawful w h k honest) (h .machines k (honest .0) (honest .1)) m verdicts (h .books .numbered) (admitted .1))
   holds-call w h (Call.fund out account amount) admitted =
-      let o = on-ledger.fund (w .ledger-rules) (w .ledger) out account amount in
+      let o = on-ledger.fund (ledger-rules w) (w .ledger) out account amount in
+      let gave = eqb (o .answer .number) 0 in
       record {
-        sound = given-sound (world w) (eqb (o .answer .number) 0) (take 16 (o .out)) (h .sound);
-        machines = λ k l honest. given-follower (w .rules k) (w .given) (eqb (o .answer .number) 0) (take 16 (o .out)) (w .machines k) (w .did k) (h .machines k l honest);
-        in-force = h .in-force;
-        books = fund-books (w .ledger-rules) (books-laid-out (h .in-force)) (w .ledger) (w .given) (w .paid) (h .books) out account amount;
-        seats = fund-seats (w .ledger-rules) (books-laid-out (h .in-force)) (w .ledger) out account amount ∙ h .seats;
+        sound = given-sound (world w) gave (take 16 (o .out)) (h .sound);
+        machines = λ k l honest. given-more (w .layouts k) (w .refusals k) (w .given) gave (take 16 (o .out)) (w .machines k) (w .did k) (h .machines k l honest);
+        books = fund-books (ledger-rules w) (lays (w .ledger-layout)) (w .ledger) (w .given) (w .paid) (h .books) out account amount;
+        seats = rw (fund-seats (ledger-rules w) (lays (w .ledger-layout)) (w .ledger) out account amount) (h .seats);
       }
-  holds-call w h (Call.redeem m verdicts) vouched = record {
-    sound = paid-sound (eqb (on-ledger.redeem (w .ledger-rules) (w .ledger) m verdicts .answer .number) 0) refl;
+  holds-call w h (Call.redeem m verdicts) truth = record {
+    sound = paid-sound (eqb (on-ledger.redeem (ledger-rules w) (w .ledger) m verdicts .answer .number) 0) refl;
     machines = h .machines;
-    in-force = h .in-force;
-    books = redeem-books (w .ledger-rules) (books-laid-out (h .in-force)) (w .ledger) (w .given) (w .paid) (h .books) m verdicts;
-    seats = redeem-seats (w .ledger-rules) (books-laid-out (h .in-force)) (w .ledger) m verdicts ∙ h .seats;
+    books = redeem-books (ledger-rules w) (lays (w .ledger-layout)) (w .ledger) (w .given) (w .paid) (h .books) m verdicts;
+    seats = rw (redeem-seats (ledger-rules w) (lays (w .ledger-layout)) (w .ledger) m verdicts) (h .seats);
   }
     where
-      paid-sound : (t : Bool) → eqb (on-ledger.redeem (w .ledger-rules) (w .ledger) m verdicts .answer .number) 0 ≡ t
+      paid-sound : (t : Bool) → eqb (on-ledger.redeem (ledger-rules w) (w .ledger) m verdicts .answer .number) 0 ≡ t
           → model.Sound papers C dishonest (record { did = w .did; given = w .given; paid = cond t (inside m ∷ w .paid) (w .paid) })
-      paid-sound true e = sound-paid-out papers C dishonest (world w) (h .sound) (inside m) (may-pay w h m verdicts vouched (eqb-true _ _ e))
+      paid-sound true e = sound-paid-out papers C dishonest (world w) (h .sound) (inside m) (may-pay w h m verdicts truth (eqb-true _ _ e))
       paid-sound false e = h .sound

@@ -19,6 +19,7 @@ use Rattle.octets.proofs.Laws.{same-is, is-same}
 use Rattle.wire.specs.Messages.{payment, funding}
 use Rattle.states.specs.Headers.{lastIndex}
 use Rattle.records.specs.declared.record.Record.{Record}
+use Rattle.records.specs.Records.{bit}
 use Rattle.records.specs.States.{Rules, recordOf}
 use Rattle.safety.specs.Runs.{Moment}
 use Rattle.safety.specs.Demand3.{Certain}
@@ -38,6 +39,7 @@ papers = record {
   Order = List ℕ;
   account = λ o. funding o .account .0;
   value = λ o. funding o .amount;
+  index = λ o. funding o .index .0;
 }
 
 -- what was done up to a moment, as the model's world
@@ -64,6 +66,7 @@ opened r = cond (eqb (r .waiting) 0) none (some (take (r .waiting) (r .pending))
 -- what a machine's state shows
 abbrev pub shown : Rules → List ℕ → Shown (List ℕ)
 shown rules s = record {
+  used = λ x. bit (recordOf rules s x .used);
   next-of = λ x. recordOf rules s x .next .0;
   pending = λ x. opened (recordOf rules s x);
   balance = λ x. recordOf rules s x .balance;

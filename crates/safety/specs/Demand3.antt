@@ -29,7 +29,7 @@ use Rattle.records.specs.Calls as on-machine
 use Rattle.ledger.specs.States as ledger
 use Rattle.ledger.specs.Answers.{paid}
 use Rattle.invariants.specs.Meaning.{WellFormed}
-use Rattle.safety.specs.Runs.{Call, Moment, start, answer, after}
+use Rattle.safety.specs.Runs.{Call, Moment, rules, ledger-rules, start, answer, after}
 
 -- what a body takes from account x, brings account x, and brings the ledger, and 1 if account x is its sender; what a funding order brings
 -- account x, and in all
@@ -86,9 +86,10 @@ module _ (f : ℕ) (dishonest : ℕ → Bool) where
   Fair w (Call.fund out account amount) = Unit
   Fair w (Call.redeem m verdicts) = FairVotes w m verdicts
 
-  -- "the rest, like the ledger, start fresh once with that f, each under its own number, and change only by their calls"
+  -- "the rest, like the ledger, start fresh once with that f, each under its own number, and change only by their calls": each in a layout that has this f
   pub data Run : Moment → Type 0 where
-    starts-fresh : Run (start f)
+    starts-fresh : (layouts : ℕ → machine.Layout) (ledger-layout : ledger.Layout) → ((k : ℕ) → Honest k → machine.Has (layouts k) f) → ledger.Has ledger-layout f
+        → Run (start f layouts ledger-layout)
     changes-by-call : {w : Moment} → Run w → (call : Call) → OnHonest call → Fair w call → Run (after w call)
 
   -- "Call a payment certain once its honest votes plus the number of dishonest machines reach 2f + 1."
@@ -127,26 +128,26 @@ module _ (f : ℕ) (dishonest : ℕ → Bool) where
 
   -- what the bytes show besides
   pub record Kept (w : Moment) : Type 0 where
-    -- the rules in force are those of 01, and every state is well formed
-    pub machines-rules : (k : ℕ) → Honest k → w .rules k ≡ machine.base
-    pub ledger-rules : w .ledger-rules ≡ ledger.base
-    pub machines-formed : (k : ℕ) → Honest k → WellFormed (w .rules k) (w .machines k)
-    pub ledger-formed : ledger.isState (w .ledger-rules) (w .ledger) ≡ true
+    -- the rules in force are those of 01, by which the contracts go, and every state is well formed
+    pub machines-rules : (k : ℕ) → Honest k → rules w k ≡ machine.base
+    pub books-rules : ledger-rules w ≡ ledger.base
+    pub machines-formed : (k : ℕ) → Honest k → WellFormed (rules w k) (w .machines k)
+    pub ledger-formed : ledger.isState (ledger-rules w) (w .ledger) ≡ true
     -- no call is answered with 16, so none meets a limit on balance or pot
     pub unlimited : (call : Call) → OnHonest call → answer w call .number ≡ 16 → ⊥
     -- "A certificate must count when it comes, even if a balance dips below zero until the credit arrives": in its turn a good one is confirmed
     pub counts : (k : ℕ) → Honest k → (m verdicts : List ℕ) → Good m verdicts
-        → payment (inside m) .sequence .0 ≡ machine.recordOf (w .rules k) (w .machines k) (payment (inside m) .sender .0) .next .0
+        → payment (inside m) .sequence .0 ≡ machine.recordOf (rules w k) (w .machines k) (payment (inside m) .sender .0) .next .0
         → answer w (Call.certificate k m verdicts) ≡ confirmed (length (signersIn m))
     -- an honest machine confirms and credits a payment once, and only a certain one
     pub debited-once : (k : ℕ) → Honest k → Distinct (debits (w .did k))
     pub credited-once : (k : ℕ) → Honest k → Distinct (credits (w .did k))
     pub debits-certain : (k : ℕ) → Honest k → (b : List ℕ) → In b (debits (w .did k)) → Certain w b
     -- a balance is the funding taken plus the confirmed credits less the confirmed payments; it may be negative
-    pub balances : (k : ℕ) → Honest k → (x : ℕ) → x ≤ 63 → on-machine.account (w .rules k) (w .machines k) x .balance
+    pub balances : (k : ℕ) → Honest k → (x : ℕ) → x ≤ 63 → on-machine.account (rules w k) (w .machines k) x .balance
         ≡ subℕ (sumOf (funds x) (fundings (w .did k)) + sumOf (brings x) (credits (w .did k))) (sumOf (takes x) (debits (w .did k)))
     -- a next sequence is the number of confirmed payments, an index that of the funding orders taken or given, the pot all funding less what was paid
-    pub nexts : (k : ℕ) → Honest k → (x : ℕ) → x ≤ 63 → machine.recordOf (w .rules k) (w .machines k) x .next .0 ≡ sumOf (isOf x) (debits (w .did k))
+    pub nexts : (k : ℕ) → Honest k → (x : ℕ) → x ≤ 63 → machine.recordOf (rules w k) (w .machines k) x .next .0 ≡ sumOf (isOf x) (debits (w .did k))
     pub indexes : (k : ℕ) → Honest k → lastIndex (w .machines k) ≡ length (fundings (w .did k))
     pub ledger-index : lastIndex (w .ledger) ≡ length (w .given)
     pub pot : ledger.pot (w .ledger) + sumOf toLedger (w .paid) ≡ sumOf amountOf (w .given)

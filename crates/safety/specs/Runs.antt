@@ -23,36 +23,45 @@ pub data Call : Type 0 where
   fund : List ℕ → ℕ → ℕ → Call
   redeem : List ℕ → List ℕ → Call
 
--- A moment. Of each machine and of the ledger the rules in force on it and its bytes; and what was done up to then, going by the answers, newest
--- first: by each machine, the funding orders that the ledger wrote, and the bodies that it paid
+-- A moment. Of each machine its layout, the further refusals in force on it and its bytes, of the ledger its layout and its bytes; and what was done up to
+-- then, going by the answers, newest first: by each machine, the funding orders that the ledger wrote, and the bodies that it paid
 pub record Moment : Type 0 where
-  pub rules : ℕ → machine.Rules
+  pub layouts : ℕ → machine.Layout
+  pub refusals : ℕ → machine.Refusals
   pub machines : ℕ → List ℕ
   pub did : ℕ → List (Event (List ℕ) (List ℕ))
-  pub ledger-rules : ledger.Rules
+  pub ledger-layout : ledger.Layout
   pub ledger : List ℕ
   pub given : List (List ℕ)
   pub paid : List (List ℕ)
 
--- all fresh with this f, each machine under its own number, under the rules of 01
-abbrev pub start : ℕ → Moment
-start f = record {
-  rules = λ k. machine.base;
-  machines = λ k. machine.freshState machine.base f k;
+-- the rules in force on a machine, and on the ledger
+abbrev pub rules : Moment → ℕ → machine.Rules
+rules w k = machine.rulesOf (w .layouts k) (w .refusals k)
+
+abbrev pub ledger-rules : Moment → ledger.Rules
+ledger-rules w = ledger.rulesOf (w .ledger-layout)
+
+-- all fresh with this f, each machine under its own number, in these layouts
+abbrev pub start : ℕ → (ℕ → machine.Layout) → ledger.Layout → Moment
+start f layouts ledger-layout = record {
+  layouts = layouts;
+  refusals = λ k. machine.Refusals.none;
+  machines = λ k. machine.freshIn (layouts k) f k;
   did = λ k. [];
-  ledger-rules = ledger.base;
-  ledger = ledger.freshState ledger.base f;
+  ledger-layout = ledger-layout;
+  ledger = ledger.freshIn ledger-layout f;
   given = [];
   paid = [];
 }
 
 -- what a call answers, by the rules in force where it is made
 abbrev pub answer : Moment → Call → Said
-answer w (Call.order k m verdicts) = on-machine.order (w .rules k) (w .machines k) m verdicts .answer
-answer w (Call.certificate k m verdicts) = on-machine.certificate (w .rules k) (w .machines k) m verdicts .answer
-answer w (Call.fundingOrder k m verdicts) = on-machine.fundingOrder (w .rules k) (w .machines k) m verdicts .answer
-answer w (Call.fund out account amount) = on-ledger.fund (w .ledger-rules) (w .ledger) out account amount .answer
-answer w (Call.redeem m verdicts) = on-ledger.redeem (w .ledger-rules) (w .ledger) m verdicts .answer
+answer w (Call.order k m verdicts) = on-machine.order (rules w k) (w .machines k) m verdicts .answer
+answer w (Call.certificate k m verdicts) = on-machine.certificate (rules w k) (w .machines k) m verdicts .answer
+answer w (Call.fundingOrder k m verdicts) = on-machine.fundingOrder (rules w k) (w .machines k) m verdicts .answer
+answer w (Call.fund out account amount) = on-ledger.fund (ledger-rules w) (w .ledger) out account amount .answer
+answer w (Call.redeem m verdicts) = on-ledger.redeem (ledger-rules w) (w .ledger) m verdicts .answer
 
 -- one more in front, unless the call was refused
 abbrev pub noted : {A : Type 0} → Said → A → List A → List A
@@ -65,10 +74,11 @@ isConfirmed said = eqb (said .number) 0 && eqb (getD (said .values) 0 1) 0
 -- the moment with other bytes and deeds of a machine, and of the ledger
 abbrev pub acts : Moment → ℕ → List ℕ → List (Event (List ℕ) (List ℕ)) → Moment
 acts w k s did = record {
-  rules = w .rules;
+  layouts = w .layouts;
+  refusals = w .refusals;
   machines = instead k s (w .machines);
   did = instead k did (w .did);
-  ledger-rules = w .ledger-rules;
+  ledger-layout = w .ledger-layout;
   ledger = w .ledger;
   given = w .given;
   paid = w .paid;
@@ -76,10 +86,11 @@ acts w k s did = record {
 
 abbrev pub keepsBooks : Moment → List ℕ → List (List ℕ) → List (List ℕ) → Moment
 keepsBooks w s given paid = record {
-  rules = w .rules;
+  layouts = w .layouts;
+  refusals = w .refusals;
   machines = w .machines;
   did = w .did;
-  ledger-rules = w .ledger-rules;
+  ledger-layout = w .ledger-layout;
   ledger = s;
   given = given;
   paid = paid;
@@ -88,17 +99,17 @@ keepsBooks w s given paid = record {
 -- the moment after a call: every byte as the contract says, and what the answer says was done
 abbrev pub after : Moment → Call → Moment
 after w (Call.order k m verdicts) =
-    let o = on-machine.order (w .rules k) (w .machines k) m verdicts in
+    let o = on-machine.order (rules w k) (w .machines k) m verdicts in
     acts w k (o .state) (noted (o .answer) (Event.voted (inside m)) (w .did k))
 after w (Call.certificate k m verdicts) =
-    let o = on-machine.certificate (w .rules k) (w .machines k) m verdicts in
+    let o = on-machine.certificate (rules w k) (w .machines k) m verdicts in
     acts w k (o .state) (cond (isConfirmed (o .answer)) (Event.credited (inside m) ∷ Event.confirmed (inside m) ∷ w .did k) (w .did k))
 after w (Call.fundingOrder k m verdicts) =
-    let o = on-machine.fundingOrder (w .rules k) (w .machines k) m verdicts in
+    let o = on-machine.fundingOrder (rules w k) (w .machines k) m verdicts in
     acts w k (o .state) (noted (o .answer) (Event.funded m) (w .did k))
 after w (Call.fund out account amount) =
-    let o = on-ledger.fund (w .ledger-rules) (w .ledger) out account amount in
+    let o = on-ledger.fund (ledger-rules w) (w .ledger) out account amount in
     keepsBooks w (o .state) (noted (o .answer) (take 16 (o .out)) (w .given)) (w .paid)
 after w (Call.redeem m verdicts) =
-    let o = on-ledger.redeem (w .ledger-rules) (w .ledger) m verdicts in
+    let o = on-ledger.redeem (ledger-rules w) (w .ledger) m verdicts in
     keepsBooks w (o .state) (w .given) (noted (o .answer) (inside m) (w .paid))

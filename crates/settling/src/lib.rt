@@ -1,6 +1,7 @@
 // Certificates: the payment is confirmed, or it was already, or a refusal.
 ghost use mathlib.Core.Path.{_≡_};
 ghost use mathlib.Core.Bool.{true, _||_};
+ghost use mathlib.Core.List.{[], _∷_};
 ghost use Prim.Native.Nat.{_≤_};
 ghost use lib.Dec.{eqb};
 ghost use lib.ListN.{length};
@@ -33,7 +34,7 @@ fn to_itself(payment: Payment) -> bool
 // A certificate of the next sequence: the sender is debited, an account that it pays is credited.
 fn pay(s: &mut [u8], payment: Payment, votes: u64, from: Record) -> ConfirmAnswer
     requires { ⌜ (length (now s) ≡ 4616) × (isPayment payment ≡ true) × (from .next .0 ≤ 4095) × Fits from × ((eqb (payment .kind) 1 || isFormed base (now s) (payment .recipient)) ≡ true) ⌝ }
-    ensures { λ r. ⌜ outcome (confirmSaid r) (now (s .exit)) ≡ calls.pay base (now (s .entry)) payment votes from (recordOf base (now (s .entry)) (payment .recipient)) ⌝ }
+    ensures { λ r. ⌜ outcome (confirmSaid r) (now (s .exit)) ≡ calls.pay base (now (s .entry)) payment (votes ∷ []) from (recordOf base (now (s .entry)) (payment .recipient)) ⌝ }
 {
     let sender = payment.sender;
     let amount = payment.amount;
@@ -74,7 +75,7 @@ fn recipient_formed(s: &[u8], payment: Payment) -> bool
 // A payment that a quorum voted for is confirmed, whatever the balance.
 fn settle(s: &mut [u8], payment: Payment, votes: u64) -> ConfirmAnswer
     requires { ⌜ (length (now s) ≡ 4616) × (isPayment payment ≡ true) ⌝ }
-    ensures { λ r. ⌜ outcome (confirmSaid r) (now (s .exit)) ≡ calls.settle base (now (s .entry)) payment votes ⌝ }
+    ensures { λ r. ⌜ outcome (confirmSaid r) (now (s .exit)) ≡ calls.settle base (now (s .entry)) payment (votes ∷ []) ⌝ }
 {
     let sender = payment.sender;
     if !Record::formed(s, sender) {

@@ -1,8 +1,10 @@
+use Prim.Native.Nat.{ℕ}
 use Rattle.wire.specs.Votes.{committee}
 use Rattle.records.specs.States.{base}
 use Rattle.records.proofs.Facts.{state-faults, state-length}
 use Rattle.states.proofs.Unless.{passed-on, goes-on, judged-by}
 use native.Mathlib.Omega.{arith}
+use mathlib.Core.List.{[], _∷_}
 use mathlib.Core.Path.{sym, ap, _∙_}
 use borrow.Author.Tests.{not-true, not-false}
 use Rattle.wire.specs.Messages.{payment, inside}
@@ -54,7 +56,7 @@ returns-3 c = let m = c .before .before .before .before .before .before .before 
     let f = sym (c .before .before .before .before .before .before .before .before .before .before .before .formed .ensures) ∙ not-false (c .before .before .before .before .before .before .before .before .before .before .before .formed .result) (c .before .before .before .before .before .before .before .before .before .before .if1 .left) in
     let e = judged-by _ (c .before .before .before .before .before .before .before .before .before .before .before .before .before .before .before .before .args .s .now) _ _ (state-faults _ f) (c .before .before .before .before .before .before .before .before .committee .ensures) (rw (c .before .before .before .before .before .payment .given .1) at (c .before .before .before .before .before .before .before .judge-certificate .ensures)) in
     let j = judged-told _ m _ _ _ e in
-    rw f (c .before .before .settle .ensures ∙ ap (λ (p : Payment). settle base (c .before .before .before .before .before .before .before .before .before .before .before .before .before .before .before .before .args .s .now) p (c .before .before .before .before .before .payment .given .0 .1 .0)) (j .said) ∙ ap (settle base (c .before .before .before .before .before .before .before .before .before .before .before .before .before .before .before .before .args .s .now) (payment (inside m))) (j .count) ∙ goes-on _ _ _ e)
+    rw f (c .before .before .settle .ensures ∙ ap (λ (p : Payment). settle base (c .before .before .before .before .before .before .before .before .before .before .before .before .before .before .before .before .args .s .now) p (c .before .before .before .before .before .payment .given .0 .1 .0 ∷ [])) (j .said) ∙ ap (settle base (c .before .before .before .before .before .before .before .before .before .before .before .before .before .before .before .before .args .s .now) (payment (inside m))) (ap (λ (n : ℕ). n ∷ []) (j .count)) ∙ goes-on _ _ _ e)
 
 pub handle-certificate-spec : {M : Type 1} → statement M
 handle-certificate-spec =
