@@ -21,9 +21,9 @@ use Rattle.wire.specs.Refusals.{Said, refuses}
 use Rattle.wire.specs.declared.kinds.Payment.{Payment}
 use Rattle.octets.proofs.TestLaws.{both}
 use Rattle.records.specs.Answers.{already}
-use Rattle.safety.specs.Runs.{Call, Moment, start, answer, after}
+use Rattle.safety.specs.Runs.{Call, Moment, answer, after}
 use Rattle.safety.specs.Demand3.{takes, brings, Safe}
-use Rattle.evidence.specs.Example.{isThree, pays, payout, e1, e2, signature, bodyOf, orderOf, certificateOf, good, allGood}
+use Rattle.evidence.specs.Example.{isThree, pays, payout, e1, e2, signature, bodyOf, orderOf, certificateOf, good, allGood, beginning}
 use Rattle.evidence.specs.Without.{anyway, Without, Step, afterSteps, Guards}
 use Rattle.evidence.proofs.Checking.{unlike, areFairVotes, isFair, fair-call, messages, machine-calls, ledger-calls}
 use Rattle.evidence.proofs.Premises.{within, fundingCalls, unpayable}
@@ -66,8 +66,8 @@ checked said w (Step.forced call ∷ steps) run h =
     checked said (anyway w call) steps (Without.leaves-out run call (c .0) (c .1) (is-said _ _ (u .0))) (u .1)
 
 -- so the answer guards where the steps pass the test and a promise is broken
-guards : (said : Said) (steps : List Step) → areWithout said (start 1) steps ≡ true → (Safe 1 isThree (afterSteps (start 1) steps) → ⊥) → Guards said isThree steps
-guards said steps h broken = record { few = lit≤ tt; run = checked said (start 1) steps Without.starts-fresh h; broken = broken }
+guards : (said : Said) (steps : List Step) → areWithout said beginning steps ≡ true → (Safe 1 isThree (afterSteps beginning steps) → ⊥) → Guards said isThree steps
+guards said steps h broken = record { few = lit≤ tt; run = checked said beginning steps Without.starts-fresh h; broken = broken }
 
 -- ---- payments
 
@@ -125,32 +125,32 @@ unpaid w fair paid refused =
 -- 1: a byte behind the last vote, so that it is no certificate and its verdicts say nothing
 pub refusal-1 : Guards (refuses 1) isThree (paysFor (certificateOf cash 0 1 2 ++ 0 ∷ []) allGood)
 unfolding messages machine-calls ledger-calls
-refusal-1 = guards _ _ refl (unpaid (afterSteps (start 1) (paysFor (certificateOf cash 0 1 2 ++ 0 ∷ []) allGood)) refl refl refl)
+refusal-1 = guards _ _ refl (unpaid (afterSteps beginning (paysFor (certificateOf cash 0 1 2 ++ 0 ∷ []) allGood)) refl refl refl)
 
 -- 3: no verdicts
 pub refusal-3 : Guards (refuses 3) isThree (paysFor (certificateOf cash 0 1 2) [])
 unfolding messages machine-calls ledger-calls
-refusal-3 = guards _ _ refl (unpaid (afterSteps (start 1) (paysFor (certificateOf cash 0 1 2) [])) refl refl refl)
+refusal-3 = guards _ _ refl (unpaid (afterSteps beginning (paysFor (certificateOf cash 0 1 2) [])) refl refl refl)
 
 -- 4: bad verdicts on two votes
 pub refusal-4 : Guards (refuses 4) isThree (paysFor (certificateOf cash 0 1 2) (1 ∷ 0 ∷ 0 ∷ []))
 unfolding messages machine-calls ledger-calls
-refusal-4 = guards _ _ refl (unpaid (afterSteps (start 1) (paysFor (certificateOf cash 0 1 2) (1 ∷ 0 ∷ 0 ∷ []))) refl refl refl)
+refusal-4 = guards _ _ refl (unpaid (afterSteps beginning (paysFor (certificateOf cash 0 1 2) (1 ∷ 0 ∷ 0 ∷ []))) refl refl refl)
 
 -- 5: votes of machines 4 and 5, which there are not
 pub refusal-5 : Guards (refuses 5) isThree (paysFor (certificateOf cash 0 4 5) allGood)
 unfolding messages machine-calls ledger-calls
-refusal-5 = guards _ _ refl (unpaid (afterSteps (start 1) (paysFor (certificateOf cash 0 4 5) allGood)) refl refl refl)
+refusal-5 = guards _ _ refl (unpaid (afterSteps beginning (paysFor (certificateOf cash 0 4 5) allGood)) refl refl refl)
 
 -- 6: machine 0's vote three times
 pub refusal-6 : Guards (refuses 6) isThree (paysFor (certificateOf cash 0 0 0) allGood)
 unfolding messages machine-calls ledger-calls
-refusal-6 = guards _ _ refl (unpaid (afterSteps (start 1) (paysFor (certificateOf cash 0 0 0) allGood)) refl refl refl)
+refusal-6 = guards _ _ refl (unpaid (afterSteps beginning (paysFor (certificateOf cash 0 0 0) allGood)) refl refl refl)
 
 -- 7: machine 0's vote alone
 pub refusal-7 : Guards (refuses 7) isThree (paysFor (certificateBytes (bodyOf cash) (0 ∷ signature)) good)
 unfolding messages machine-calls ledger-calls
-refusal-7 = guards _ _ refl (unpaid (afterSteps (start 1) (paysFor (certificateBytes (bodyOf cash) (0 ∷ signature)) good)) refl refl refl)
+refusal-7 = guards _ _ refl (unpaid (afterSteps beginning (paysFor (certificateBytes (bodyOf cash) (0 ∷ signature)) good)) refl refl refl)
 
 -- ---- orders
 
@@ -160,7 +160,7 @@ steps-8 = Step.forced (votes-for 0 cash) ∷ Step.forced (votes-for 1 cash) ∷ 
 
 pub refusal-8 : Guards (refuses 8) isThree steps-8
 unfolding messages machine-calls ledger-calls
-refusal-8 = guards _ _ refl (λ safe. let z : 1_000 ≤ 0 = within isThree (afterSteps (start 1) steps-8) (bodyOf cash) safe (lit≤ tt) in omega arith)
+refusal-8 = guards _ _ refl (λ safe. let z : 1_000 ≤ 0 = within isThree (afterSteps beginning steps-8) (bodyOf cash) safe (lit≤ tt) in omega arith)
 
 -- 9: machine 0 votes for a second body while the first is pending. Machines 0, 1 and 3 count for one, 0, 2 and 3 for the other
 pub refusal-9 : Guards (refuses 9) isThree
@@ -181,7 +181,7 @@ steps-11 = funded ++ Step.forced (votes-for 0 tooMuch) ∷ Step.forced (votes-fo
 
 pub refusal-11 : Guards (refuses 11) isThree steps-11
 unfolding messages machine-calls ledger-calls
-refusal-11 = guards _ _ refl (λ safe. let z : 3_000 ≤ 2_000 = within isThree (afterSteps (start 1) steps-11) (bodyOf tooMuch) safe (lit≤ tt) in omega arith)
+refusal-11 = guards _ _ refl (λ safe. let z : 3_000 ≤ 2_000 = within isThree (afterSteps beginning steps-11) (bodyOf tooMuch) safe (lit≤ tt) in omega arith)
 
 -- 12: two machines take the funding order twice
 abbrev steps-12 : List Step
@@ -191,7 +191,7 @@ steps-12 =
 
 pub refusal-12 : Guards (refuses 12) isThree steps-12
 unfolding messages machine-calls ledger-calls
-refusal-12 = guards _ _ refl (λ safe. let z : 3_000 ≤ 2_000 = within isThree (afterSteps (start 1) steps-12) (bodyOf tooMuch) safe (lit≤ tt) in omega arith)
+refusal-12 = guards _ _ refl (λ safe. let z : 3_000 ≤ 2_000 = within isThree (afterSteps beginning steps-12) (bodyOf tooMuch) safe (lit≤ tt) in omega arith)
 
 -- ---- redeeming
 
@@ -210,7 +210,7 @@ steps-13 =
 pub refusal-13 : Guards (refuses 13) isThree steps-13
 unfolding messages machine-calls ledger-calls
 refusal-13 =
-    guards _ _ refl (unpayable (afterSteps (start 1) steps-13) (certificateOf on 0 1 3) allGood 14 refl refl refl (elim [ inl e ↦ unlike (bodyOf on) (bodyOf moved) refl e | inr i ↦ i ]) refl)
+    guards _ _ refl (unpayable (afterSteps beginning steps-13) (certificateOf on 0 1 3) allGood 14 refl refl refl (elim [ inl e ↦ unlike (bodyOf on) (bodyOf moved) refl e | inr i ↦ i ]) refl)
 
 -- 14: a payment is paid twice
 pub refusal-14 : Guards (refuses 14) isThree
@@ -230,7 +230,7 @@ steps-already =
 
 pub already-answered : Guards (already 3) isThree steps-already
 unfolding messages machine-calls ledger-calls
-already-answered = guards _ _ refl (λ safe. let z : 3_000 ≤ 2_000 = within isThree (afterSteps (start 1) steps-already) (bodyOf (pays 7 1 9 3_000 0)) safe (lit≤ tt) in omega arith)
+already-answered = guards _ _ refl (λ safe. let z : 3_000 ≤ 2_000 = within isThree (afterSteps beginning steps-already) (bodyOf (pays 7 1 9 3_000 0)) safe (lit≤ tt) in omega arith)
 
 -- 10 of a certificate: one that comes ahead of its turn is confirmed, and then, in what is now its turn, once more. Account 2 pays account 7 1 and then 900
 -- by the votes of 1, 2 and 3, account 3 the same by those of 0, 2 and 3; the second payment of each comes early and twice to the machine that did not vote.
@@ -268,7 +268,7 @@ steps-early =
 
 pub refusal-10-early : Guards (refuses 10) isThree steps-early
 unfolding messages machine-calls ledger-calls
-refusal-10-early = guards _ _ refl (λ safe. let z : 2_701 ≤ 2_000 = within isThree (afterSteps (start 1) steps-early) (bodyOf (pays 7 1 9 2_701 0)) safe (lit≤ tt) in omega arith)
+refusal-10-early = guards _ _ refl (λ safe. let z : 2_701 ≤ 2_000 = within isThree (afterSteps beginning steps-early) (bodyOf (pays 7 1 9 2_701 0)) safe (lit≤ tt) in omega arith)
 
 -- ---- values
 
@@ -303,7 +303,7 @@ unfolding messages machine-calls ledger-calls
 refusal-2 =
     guards _ _ refl (λ safe.
     let none = sum-zero (brings 7) (safe .certains) (λ b i.
-    nothing-brought b (counted (afterSteps (start 1) steps-2 .did) b (bodyOf payout ∷ bodyOf ofKind2 ∷ []) refl refl refl (safe .only-certain b i))) in
+    nothing-brought b (counted (afterSteps beginning steps-2 .did) b (bodyOf payout ∷ bodyOf ofKind2 ∷ []) refl refl refl (safe .only-certain b i))) in
     let some : 1_500 ≤ _ = sum-in (takes 7) (safe .certains) (bodyOf payout) (safe .all-certain (bodyOf payout) (lit≤ tt)) in
     let all : _ ≤ 0 + _ = safe .covered 7 in
     omega arith)

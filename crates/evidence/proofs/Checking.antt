@@ -5,7 +5,7 @@ use mathlib.Core.Bool.{Bool, true, false, _&&_, not, cond, false≢true}
 use mathlib.Core.List.{List, [], _∷_}
 use native.Mathlib.Omega.{arith}
 use lib.ListN.{length, getD}
-use lib.Dec.{leb, eqb}
+use lib.Dec.{leb, eqb, lit≤}
 use borrow.Author.Tests.{leb-true, le-leb, eq-eqb, not-true}
 use Rattle.model.specs.Lists.{In, isIn}
 use Rattle.model.specs.Histories.{votes}
@@ -24,7 +24,7 @@ use Rattle.ledger.specs.States as ledger
 use Rattle.ledger.specs.Calls as on-ledger
 use Rattle.safety.specs.Runs.{Call, Moment, after}
 use Rattle.safety.specs.Demand3.{Honest, OnHonest, FairVotes, FairFunding, Fair, Run}
-use Rattle.evidence.specs.Example.{afterAll}
+use Rattle.evidence.specs.Example.{afterAll, beginning}
 
 -- bytes that are not the same are not equal
 pub unlike : (b c : List ℕ) → same b c ≡ false → b ≡ c → ⊥
@@ -108,6 +108,10 @@ module _ (f : ℕ) (dishonest : ℕ → Bool) where
       let t = both (isFair w call) (areFair (after w call) calls) h in
       let c = fair-call w call (t .0) in
       checked (after w call) calls (Run.changes-by-call run call (c .0) (c .1)) (t .1)
+
+-- four machines and the ledger, all fresh
+pub begins : (dishonest : ℕ → Bool) → Run 1 dishonest beginning
+begins dishonest = Run.starts-fresh (λ k. machine.Layout.plain) ledger.Layout.plain (λ k honest. lit≤ tt) (lit≤ tt)
 
 -- for proofs by computing: to unfold one of these three is to unfold all that its line names. Bytes and messages
 unfoldable pub messages : Unit {0}

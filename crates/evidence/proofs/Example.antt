@@ -2,23 +2,22 @@
 use mathlib.Core.Path.{_≡_, refl}
 use lib.Dec.{lit≤}
 use lib.IntN.{pos, negsuc}
-use Rattle.safety.specs.Runs.{start}
 use Rattle.safety.specs.Demand3.{Run, Certain, Safe, Kept}
-use Rattle.evidence.specs.Example.{answers, isThree, e1, payout, bodyOf, morning, day, dayAnswers, reached, balance}
+use Rattle.evidence.specs.Example.{answers, isThree, beginning, e1, payout, bodyOf, morning, day, dayAnswers, reached, balance}
 use Rattle.safety.proofs.Demand3.{demand3}
-use Rattle.evidence.proofs.Checking.{checked, messages, machine-calls, ledger-calls}
+use Rattle.evidence.proofs.Checking.{checked, begins, messages, machine-calls, ledger-calls}
 
 -- the day is a run
 pub day-runs : Run 1 isThree (reached day)
 unfolding messages machine-calls ledger-calls
-day-runs = checked 1 isThree (start 1) day Run.starts-fresh refl
+day-runs = checked 1 isThree beginning day (begins isThree) refl
 
 -- so demand 3 speaks of it
 pub day-safe : Safe 1 isThree (reached day) × Kept 1 isThree (reached day)
 day-safe = demand3 1 (lit≤ tt) isThree (lit≤ tt) (reached day) day-runs
 
 -- its calls get the answers that stand beside them
-pub day-answers : answers (start 1) day ≡ dayAnswers
+pub day-answers : answers beginning day ≡ dayAnswers
 unfolding messages machine-calls ledger-calls
 day-answers = refl
 

@@ -15,10 +15,10 @@ use Rattle.octets.specs.Octets.{same}
 use Rattle.wire.specs.Messages.{payment, inside}
 use Rattle.wire.specs.Refusals.{Said}
 use Rattle.wire.specs.declared.kinds.Payment.{Payment}
-use Rattle.safety.specs.Runs.{Call, Moment, start, answer, after}
+use Rattle.safety.specs.Runs.{Call, Moment, answer, after}
 use Rattle.safety.specs.Demand3.{toLedger, amountOf, Run, Certain, Good, Safe}
-use Rattle.evidence.specs.Example.{afterAll, isThree, pays, e1, e2, bodyOf, orderOf, certificateOf, good, allGood, reached}
-use Rattle.evidence.proofs.Checking.{unlike, areFairVotes, fair-votes, checked, messages, machine-calls, ledger-calls}
+use Rattle.evidence.specs.Example.{afterAll, isThree, pays, e1, e2, bodyOf, orderOf, certificateOf, good, allGood, beginning, reached}
+use Rattle.evidence.proofs.Checking.{unlike, areFairVotes, fair-votes, checked, begins, messages, machine-calls, ledger-calls}
 
 -- another payment under E1's number: account 2 pays account 7 1,600
 abbrev other : Payment
@@ -61,7 +61,7 @@ pub at-most-f : (count fromTwo 4 ≡ 2) × Run 1 fromTwo (reached split) × (Saf
 unfolding messages machine-calls ledger-calls
 at-most-f = (
   refl,
-  checked 1 fromTwo (start 1) split Run.starts-fresh refl,
+  checked 1 fromTwo beginning split (begins fromTwo) refl,
   λ safe. different (safe .one-a-number (bodyOf e1) (bodyOf other) (lit≤ tt) (lit≤ tt) refl refl),
 )
 
@@ -72,16 +72,17 @@ votesFor w b = count (λ k. not (isThree k) && isIn same b (votes (w .did k))) 4
 pub reach-2f+1 : Run 1 isThree (reached split) × (2 * 1 ≤ votesFor (reached split) (bodyOf e1)) × (2 * 1 ≤ votesFor (reached split) (bodyOf other))
     × (bodyOf e1 ≡ bodyOf other → ⊥) × (e1 .sender .0 ≡ other .sender .0) × (e1 .sequence .0 ≡ other .sequence .0)
 unfolding messages machine-calls ledger-calls
-reach-2f+1 = (checked 1 isThree (start 1) split Run.starts-fresh refl, lit≤ tt, lit≤ tt, different, refl, refl)
+reach-2f+1 = (checked 1 isThree beginning split (begins isThree) refl, lit≤ tt, lit≤ tt, different, refl, refl)
 
 -- "start fresh": two machines that start with 2,000 in account 2, which the ledger never gave, make 1,500 to the ledger certain
 abbrev notFresh : Moment
 notFresh = record {
-  rules = start 1 .rules;
+  layouts = beginning .layouts;
+  refusals = beginning .refusals;
   machines = funded .machines;
-  did = start 1 .did;
-  ledger-rules = start 1 .ledger-rules;
-  ledger = start 1 .ledger;
+  did = beginning .did;
+  ledger-layout = beginning .ledger-layout;
+  ledger = beginning .ledger;
   given = [];
   paid = [];
 }
@@ -93,10 +94,11 @@ start-fresh safe = let z : 1_500 ≤ 0 = within isThree (bothVote notFresh cash)
 -- "and change only by their calls": two machines vote for one payment, are put back to their bytes from before, and vote for the other
 abbrev putBack : Moment → Moment
 putBack w = record {
-  rules = w .rules;
+  layouts = w .layouts;
+  refusals = w .refusals;
   machines = funded .machines;
   did = w .did;
-  ledger-rules = w .ledger-rules;
+  ledger-layout = w .ledger-layout;
   ledger = w .ledger;
   given = w .given;
   paid = w .paid;

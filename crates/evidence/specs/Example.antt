@@ -10,10 +10,12 @@ use Rattle.wire.specs.Votes.{certificateBytes}
 use Rattle.wire.specs.Refusals.{Said, refuses}
 use Rattle.wire.specs.declared.kinds.Payment.{Payment}
 use Rattle.states.specs.Outcomes.{done}
+use Rattle.records.specs.States as machine
 use Rattle.records.specs.Answers.{voteNew, voteRepeated, confirmed, already}
 use Rattle.records.specs.Calls.{account}
+use Rattle.ledger.specs.States as ledger
 use Rattle.ledger.specs.Answers.{funded, paid}
-use Rattle.safety.specs.Runs.{Call, Moment, start, answer, after}
+use Rattle.safety.specs.Runs.{Call, Moment, rules, start, answer, after}
 
 -- the moment after calls, one after another
 abbrev pub afterAll : Moment → List Call → Moment
@@ -115,10 +117,14 @@ day = morning ++ noon ++ evening
 abbrev pub dayAnswers : List Said
 dayAnswers = morningAnswers ++ noonAnswers ++ eveningAnswers
 
+-- four machines and the ledger at their start, all in the layout of 01
+abbrev pub beginning : Moment
+beginning = start 1 (λ k. machine.Layout.plain) ledger.Layout.plain
+
 -- the moment that these calls lead to
 abbrev pub reached : List Call → Moment
-reached calls = afterAll (start 1) calls
+reached calls = afterAll beginning calls
 
 -- the balance of an account that a machine shows
 abbrev pub balance : Moment → ℕ → ℕ → ℤ
-balance w k x = account (w .rules k) (w .machines k) x .balance
+balance w k x = account (rules w k) (w .machines k) x .balance

@@ -7,26 +7,27 @@ use lib.Dec.{eqb}
 use Rattle.model.specs.Histories.{Event}
 use Rattle.wire.specs.Messages.{payment, inside, funding}
 use Rattle.wire.specs.Refusals.{Said}
-use Rattle.invariants.specs.Outcomes.{afterVote, afterPaid, afterMoved, afterFunding}
+use Rattle.invariants.specs.Outcomes.{afterVote, afterDebit, afterTransfer, afterFunding}
 use Rattle.bookkeeping.specs.Outcomes.{afterPay}
-use Rattle.safety.specs.Runs.{Call, Moment, start, answer, acts, keepsBooks, after}
+use Rattle.safety.specs.Runs.{Call, Moment, rules, ledger-rules, answer, acts, keepsBooks, after}
 use Rattle.safety.specs.Demand3.{AtMostF, OnHonest, Fair, Safe}
+use Rattle.evidence.specs.Example.{beginning}
 
 -- the call done, whatever its answer is: the vote given, the payment confirmed and credited, the funding order taken, the body paid. (Fund is left alone)
 abbrev pub anyway : Moment → Call → Moment
-anyway w (Call.order k m verdicts) = acts w k (afterVote (w .rules k) (w .machines k) (inside m)) (Event.voted (inside m) ∷ w .did k)
+anyway w (Call.order k m verdicts) = acts w k (afterVote (rules w k) (w .machines k) (inside m)) (Event.voted (inside m) ∷ w .did k)
 anyway w (Call.certificate k m verdicts) =
     let p = payment (inside m) in
-    acts w k (cond (eqb (p .kind) 1) (afterPaid (w .rules k) (w .machines k) p (p .amount)) (afterMoved (w .rules k) (w .machines k) p))
+    acts w k (cond (eqb (p .kind) 1) (afterDebit (rules w k) (w .machines k) p) (afterTransfer (rules w k) (w .machines k) p))
     (Event.credited (inside m) ∷ Event.confirmed (inside m) ∷ w .did k)
-anyway w (Call.fundingOrder k m verdicts) = acts w k (afterFunding (w .rules k) (w .machines k) (funding m)) (Event.funded m ∷ w .did k)
+anyway w (Call.fundingOrder k m verdicts) = acts w k (afterFunding (rules w k) (w .machines k) (funding m)) (Event.funded m ∷ w .did k)
 anyway w (Call.fund out account amount) = w
-anyway w (Call.redeem m verdicts) = keepsBooks w (afterPay (w .ledger-rules) (w .ledger) (payment (inside m))) (w .given) (inside m ∷ w .paid)
+anyway w (Call.redeem m verdicts) = keepsBooks w (afterPay (ledger-rules w) (w .ledger) (payment (inside m))) (w .given) (inside m ∷ w .paid)
 
 -- a run of four machines without an answer: fair calls on honest machines and on the ledger, of which those that would be answered so are done all
 -- the same
 pub data Without (said : Said) (dishonest : ℕ → Bool) : Moment → Type 0 where
-  starts-fresh : Without said dishonest (start 1)
+  starts-fresh : Without said dishonest beginning
   changes-by-call : {w : Moment} → Without said dishonest w → (call : Call) → OnHonest 1 dishonest call → Fair 1 dishonest w call → (answer w call ≡ said → ⊥)
       → Without said dishonest (after w call)
   leaves-out : {w : Moment} → Without said dishonest w → (call : Call) → OnHonest 1 dishonest call → Fair 1 dishonest w call → answer w call ≡ said
@@ -47,5 +48,5 @@ afterSteps w (Step.forced call ∷ steps) = afterSteps (anyway w call) steps
 -- demand 3
 pub record Guards (said : Said) (dishonest : ℕ → Bool) (steps : List Step) : Type 0 where
   pub few : AtMostF 1 dishonest
-  pub run : Without said dishonest (afterSteps (start 1) steps)
-  pub broken : Safe 1 dishonest (afterSteps (start 1) steps) → ⊥
+  pub run : Without said dishonest (afterSteps beginning steps)
+  pub broken : Safe 1 dishonest (afterSteps beginning steps) → ⊥

@@ -15,9 +15,9 @@ use Rattle.states.specs.Headers.{lastIndex}
 use Rattle.records.specs.declared.record.Record.{Record}
 use Rattle.records.specs.Records.{recordAt, isRecord}
 use Rattle.records.specs.States.{Rules, stateLength, isState, place, recordOf}
+use Rattle.records.specs.Calls.{debited}
 use Rattle.invariants.specs.Meaning.{WellFormed, Moved, Lays, confirmedBy, Limited}
 use Rattle.invariants.specs.RecordLaws.{window, record-window, formed-window}
-use Rattle.invariants.specs.Outcomes.{afterDebit, afterSending, Sent}
 
 -- a state that is not touched
 pub unmoved : (rules : Rules) (s : List ℕ) → isState rules s ≡ true → Moved rules s rules s
@@ -65,7 +65,7 @@ module _ (rules : Rules) (l : Lays rules) (s : List ℕ) (out into : ℕ) where
         windows = λ x k. ap (λ (z : List ℕ). window z (place rules x)) (t .is-put) ∙ cut-put-out s (t .at) (t .bytes) (place rules x) 72 (λ j p q u v. omega (arith, t .before-records));
       }
 
--- a credit that was sent moves the state where the amount left
-pub sending-moved : (rules : Rules) → Lays rules → (s : List ℕ) (p : Payment) → Sent rules s p (recordOf rules s (p .sender .0)) → isState rules (afterDebit rules s p) ≡ true
-    → Moved rules (afterDebit rules s p) rules (afterSending rules s p)
-sending-moved rules l s p g h = l .sent-moves _ (p .recipient) (p .amount) h (l .send-free s (p .amount) 0 (p .sender .0) _ (g .place))
+-- a credit that is sent moves the state where the amount left
+pub sending-moved : (rules : Rules) → Lays rules → (s : List ℕ) (p : Payment) (r : Record) → rules .maySend s ≡ true → isState rules (debited rules s p r) ≡ true
+    → Moved rules (debited rules s p r) rules (rules .sent (debited rules s p r) (p .recipient) (p .amount))
+sending-moved rules l s p r may h = l .sent-moves _ (p .recipient) (p .amount) h (l .send-free s (p .amount) 0 (p .sender .0) _ may)

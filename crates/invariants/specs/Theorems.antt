@@ -118,7 +118,7 @@ certificate-keeps rules l s m verdicts w =
     withRecord-keeps rules l (afterPaid rules s p (p .amount)) (p .recipient) _ h (payer s w v (p .amount))
     (credited-formed (p .recipient) to (p .amount) (formed-of rules s (p .recipient) w h) (c .room))) (λ v g.
     let f = debit v (g .noted) in
-    moved-formed rules _ rules _ (sending-moved rules l s p g (f .state)) f)
+    moved-formed rules _ rules _ (sending-moved rules l s p _ (g .place) (f .state)) f)
 
 pub funding-keeps : (rules : Rules) → Lays rules → (s m verdicts : List ℕ) → WellFormed rules s → WellFormed rules (fundingOrder rules s m verdicts .state)
 funding-keeps rules l s m verdicts w =
@@ -171,7 +171,7 @@ certificate-limited rules l s m verdicts h =
     limited-more rules l s h p v _
     (follows-record rules l 1 (lastIndex s) s _ (p .recipient) _ (follows-paid rules l s h p v (p .amount) (v .range .amount)) k f (changed-credited to (p .amount) (v .range .amount)))
     (ap (λ (r : Record). r .next .0) (record-stays rules _ (p .recipient) (p .sender .0) _ (omega (arith, f .size)) (c .other)) ∙ raised rules l s h p v (p .amount)))
-    (λ v g. let f = debit v (g .noted) in moved-limited rules _ rules _ (sending-moved rules l s p g (f .formed .state)) f)
+    (λ v g. let f = debit v (g .noted) in moved-limited rules _ rules _ (sending-moved rules l s p _ (g .place) (f .formed .state)) f)
 
 pub funding-limited : (rules : Rules) → Lays rules → (s m verdicts : List ℕ) → Limited rules s → Limited rules (fundingOrder rules s m verdicts .state)
 funding-limited rules l s m verdicts h =

@@ -1,9 +1,10 @@
 -- Demand 3 holds. Assumes nothing.
 use Prim.Native.Nat.{ℕ, _+_, _*_}
-use mathlib.Core.Path.{_≡_, refl, sym, ap, subst, _∙_}
+use mathlib.Core.Path.{_≡_, refl, ap, _∙_}
 use mathlib.Core.Bool.{Bool, true, false}
 use mathlib.Core.List.{List}
 use native.Mathlib.Omega.{arith}
+use lib.ListN.{length}
 use lib.Dec.{ltb}
 use lib.IntN.{pos, negsuc, subℕ}
 use borrow.Author.Tests.{ltb-true, ltb-false, lt-ltb, le-ltb, leb-true}
@@ -16,25 +17,30 @@ use Rattle.model.proofs.QuorumLaws.{count-few}
 use Rattle.model.proofs.HistoryLaws.{debit-once, credit-once, debit-certain}
 use Rattle.model.proofs.Safety.{unique, account-safe, solvent, listed}
 use Rattle.wire.specs.Messages.{payment, inside}
+use Rattle.wire.specs.Votes as wire
 use Rattle.wire.specs.Votes.{committee, signersIn}
+use Rattle.wire.specs.Readers.{judgedBy}
 use Rattle.records.specs.Balances.{nought}
 use Rattle.records.specs.States as machine
-use Rattle.records.specs.Calls as on-machine
+use Rattle.records.specs.Answers.{confirmed}
+use Rattle.invariants.specs.Meaning.{HasRoom}
 use Rattle.invariants.specs.Outcomes.{judged}
 use Rattle.invariants.specs.Theorems.{certificate-counts, account-balance}
-use Rattle.invariants.specs.Bounds.{order-low, certificate-low, funding-low}
-use Rattle.ledger.specs.States as ledger
-use Rattle.ledger.specs.Calls as on-ledger
+use Rattle.invariants.specs.Layouts as machine-layouts
+use Rattle.invariants.specs.Sixteen.{order-not-16, certificate-not-16, funding-not-16}
 use Rattle.ledger.specs.Answers.{paid}
 use Rattle.bookkeeping.specs.Runs.{fund-never-16, redeem-never-16}
+use Rattle.bookkeeping.specs.Layouts as ledger-layouts
 use Rattle.roundtrip.specs.Voters.{known-most}
-use Rattle.safety.specs.Runs.{Call, Moment, answer}
+use Rattle.safety.specs.Runs.{Call, Moment, rules, ledger-rules, answer}
 use Rattle.safety.specs.Demand3.{AtMostF, takes, brings, toLedger, funds, Honest, OnHonest, FairVotes, Good, Safe, Kept, Demand3}
 use Rattle.safety.proofs.Papers.{papers, world, certain-counts, counts-certain}
-use Rattle.safety.proofs.Certificates.{counting-seats, signers-once, fair-votes}
+use Rattle.safety.proofs.Certificates.{Seats, counting-seats, judged-alike, signers-once, fair-votes}
 use Rattle.safety.proofs.Books.{amountIn}
-use Rattle.safety.proofs.Holding.{Follower}
-use Rattle.safety.proofs.Paying.{certain, pays-whole}
+use Rattle.safety.proofs.Followers.{Follower}
+use Rattle.safety.proofs.Room.{follower-room}
+use Rattle.safety.proofs.Holding as holding
+use Rattle.safety.proofs.Paying.{pays-whole}
 use Rattle.safety.proofs.Running.{Holds, member, run-holds}
 
 -- two differences of equal distance are equal
@@ -54,15 +60,25 @@ module _ (f : ℕ) (dishonest : ℕ → Bool) (few : AtMostF f dishonest) (w : M
   minority : Few (counting f) dishonest
   minority = count-few f dishonest (omega (arith, few))
 
-  -- an honest machine's bytes
-  own : (k : ℕ) → Honest f dishonest k → Follower (w .rules k) (committee f) (w .given) (w .machines k) (w .did k)
+  -- an honest machine's bytes follow what it did, which is lawful, and have room
+  own : (k : ℕ) → Honest f dishonest k → Follower (w .layouts k) (w .refusals k) (counting f) (w .given) (w .machines k) (w .did k)
   own k honest = h .machines k (member f dishonest k (honest .0)) (honest .1)
+
+  lawful : (k : ℕ) → Honest f dishonest k → Lawful papers (model.Certain papers (counting f) dishonest (world w)) (w .given) (w .did k)
+  lawful k honest = holding.lawful (counting f) dishonest w h k (member f dishonest k (honest .0), honest .1)
+
+  room : (k : ℕ) → Honest f dishonest k → HasRoom (rules w k) (w .machines k)
+  room k honest = follower-room (w .layouts k) (w .refusals k) (counting f) _ (w .given) (w .machines k) (w .did k) (lawful k honest) (own k honest) (h .books .balanced .few)
+
+  -- a good certificate is judged good by every header that names this committee
+  good-by : (c : wire.Committee) → Seats (counting f) c → (m verdicts : List ℕ) → Good f dishonest m verdicts → judgedBy c m verdicts .number ≡ 0
+  good-by c seats m verdicts good = rw (judged-alike (counting f) c (committee f) seats (counting-seats f) m verdicts) good
 
   -- a good certificate to the ledger, not yet paid, is paid whole
   paid-whole : (m verdicts : List ℕ) → Good f dishonest m verdicts → FairVotes f dishonest w m verdicts → payment (inside m) .kind ≡ 1 → (In (inside m) (w .paid) → ⊥)
       → answer w (Call.redeem m verdicts) ≡ paid (payment (inside m) .recipient) (payment (inside m) .amount)
-  paid-whole m verdicts good fair kind unpaid =
-      pays-whole (counting f) (committee f) (counting-seats f) dishonest minority w h m verdicts good (fair-votes f dishonest w m verdicts fair) kind unpaid
+  paid-whole m verdicts good fair =
+      pays-whole (counting f) dishonest minority w h m verdicts (good-by _ (h .seats) m verdicts good) (fair-votes f dishonest w m verdicts fair)
 
   safe : Safe f dishonest w
   safe =
@@ -73,7 +89,7 @@ module _ (f : ℕ) (dishonest : ℕ → Bool) (few : AtMostF f dishonest) (w : M
         only-certain = λ b i. certain-counts f dishonest w b (l .1 .only-certain b i);
         all-certain = λ b c. l .1 .all-certain b (counts-certain f dishonest w b c);
         good-certain = λ m verdicts good fair.
-            certain-counts f dishonest w (inside m) (certain (counting f) (committee f) (counting-seats f) dishonest minority w h m verdicts good (fair-votes f dishonest w m verdicts fair));
+            certain-counts f dishonest w (inside m) (holding.certified-by (counting f) dishonest w m verdicts (fair-votes f dishonest w m verdicts fair) (committee f) (counting-seats f) good);
         one-a-number = λ b c u v. unique papers (counting f) dishonest minority (world w) (h .sound) b c (counts-certain f dishonest w b u) (counts-certain f dishonest w c v);
         covered = account-safe papers (counting f) dishonest minority (world w) (h .sound) (l .0) (l .1);
         solvent = solvent papers (counting f) dishonest minority (world w) (h .sound) (l .0) (l .1);
@@ -87,28 +103,20 @@ module _ (f : ℕ) (dishonest : ℕ → Bool) (few : AtMostF f dishonest) (w : M
 
   -- no call answers 16
   never-16 : (call : Call) → OnHonest f dishonest call → answer w call .number ≡ 16 → ⊥
-  never-16 (Call.order k m verdicts) honest =
-      let b = own k honest in
-      subst (λ (r : machine.Rules). on-machine.order r (w .machines k) m verdicts .answer .number ≡ 16 → ⊥) (sym (b .in-force))
-      (λ e. omega (arith, order-low (w .machines k) m verdicts (rw (b .in-force) at (b .limited))))
-  never-16 (Call.certificate k m verdicts) honest =
-      let b = own k honest in
-      subst (λ (r : machine.Rules). on-machine.certificate r (w .machines k) m verdicts .answer .number ≡ 16 → ⊥) (sym (b .in-force))
-      (λ e. omega (arith, certificate-low (w .machines k) m verdicts (rw (b .in-force) at (b .limited))))
-  never-16 (Call.fundingOrder k m verdicts) honest =
-      let b = own k honest in
-      subst (λ (r : machine.Rules). on-machine.fundingOrder r (w .machines k) m verdicts .answer .number ≡ 16 → ⊥) (sym (b .in-force))
-      (λ e. omega (arith, funding-low (w .machines k) m verdicts (rw (b .in-force) at (b .limited))))
-  never-16 (Call.fund out account amount) honest =
-      subst (λ (r : ledger.Rules). on-ledger.fund r (w .ledger) out account amount .answer .number ≡ 16 → ⊥) (sym (h .in-force))
-      (fund-never-16 out account amount (rw (h .in-force) at (h .books .balanced)))
-  never-16 (Call.redeem m verdicts) honest =
-      subst (λ (r : ledger.Rules). on-ledger.redeem r (w .ledger) m verdicts .answer .number ≡ 16 → ⊥) (sym (h .in-force))
-      (redeem-never-16 m verdicts (rw (h .in-force) at (h .books .balanced)))
+  never-16 (Call.order k m verdicts) honest = order-not-16 (rules w k) (w .machines k) m verdicts (own k honest .formed) (machine-layouts.further-not-16 (w .layouts k) (w .refusals k))
+  never-16 (Call.certificate k m verdicts) honest = certificate-not-16 (rules w k) (w .machines k) m verdicts (room k honest)
+  never-16 (Call.fundingOrder k m verdicts) honest = funding-not-16 (rules w k) (w .machines k) m verdicts (room k honest)
+  never-16 (Call.fund out account amount) honest = fund-never-16 out account amount (h .books .balanced)
+  never-16 (Call.redeem m verdicts) honest = redeem-never-16 m verdicts (h .books .balanced)
 
-  -- what an honest machine did is lawful
-  lawful : (k : ℕ) → Honest f dishonest k → Lawful papers (model.Certain papers (counting f) dishonest (world w)) (w .given) (w .did k)
-  lawful k honest = h .sound .lawful k (member f dishonest k (honest .0)) (honest .1)
+  -- a good certificate in its turn is confirmed, with the number of its votes
+  counted : (k : ℕ) → Honest f dishonest k → (m verdicts : List ℕ) → Good f dishonest m verdicts
+      → payment (inside m) .sequence .0 ≡ machine.recordOf (rules w k) (w .machines k) (payment (inside m) .sender .0) .next .0
+      → answer w (Call.certificate k m verdicts) ≡ confirmed (length (signersIn m))
+  counted k honest m verdicts good turn =
+      let all = machine-layouts.keeps-all (w .layouts k) (w .refusals k) in
+      rw (machine-layouts.counts-votes (w .layouts k) (w .refusals k) (w .machines k) (signersIn m)) at
+      (certificate-counts (rules w k) (w .machines k) m verdicts (room k honest) (good-by _ (own k honest .seats) m verdicts good) (all _) (rw (all (payment (inside m) .recipient)) refl) turn)
 
   -- what is paid goes to the ledger whole
   worth : (b : List ℕ) → In b (w .paid) → toLedger b ≡ amountIn b
@@ -116,12 +124,12 @@ module _ (f : ℕ) (dishonest : ℕ → Bool) (few : AtMostF f dishonest) (w : M
 
   kept : Kept f dishonest w
   kept = record {
-    machines-rules = λ k honest. own k honest .in-force;
-    ledger-rules = h .in-force;
-    machines-formed = λ k honest. own k honest .limited .formed;
+    machines-rules = λ k honest. machine-layouts.rules-of-01 (w .layouts k) (w .refusals k);
+    books-rules = ledger-layouts.rules-of-01 (w .ledger-layout);
+    machines-formed = λ k honest. own k honest .formed;
     ledger-formed = h .books .balanced .state;
     unlimited = never-16;
-    counts = λ k honest m verdicts good turn. certificate-counts (w .rules k) (w .machines k) m verdicts (own k honest .limited) (rw (own k honest .seats) good) turn;
+    counts = counted;
     debited-once = λ k honest. debit-once papers _ (w .given) (w .did k) (lawful k honest);
     credited-once = λ k honest. credit-once papers _ (w .given) (w .did k) (lawful k honest);
     debits-certain = λ k honest b i. certain-counts f dishonest w b (debit-certain papers _ (w .given) (w .did k) (lawful k honest) b i);
@@ -129,8 +137,8 @@ module _ (f : ℕ) (dishonest : ℕ → Bool) (few : AtMostF f dishonest) (w : M
         let bytes = own k honest in
         let s = w .machines k in
         let money = bytes .follows .money x (omega arith) in
-        account-balance (w .rules k) s x (bytes .limited .formed) l
-        ∙ same-difference (machine.recordOf (w .rules k) s x .balance) nought (sumOf (funds x) (fundings (w .did k)) + sumOf (brings x) (credits (w .did k))) (sumOf (takes x) (debits (w .did k))) (omega arith);
+        account-balance (rules w k) s x (bytes .formed) l (machine-layouts.keeps-all (w .layouts k) (w .refusals k) x)
+        ∙ same-difference (machine.recordOf (rules w k) s x .balance) nought (sumOf (funds x) (fundings (w .did k)) + sumOf (brings x) (credits (w .did k))) (sumOf (takes x) (debits (w .did k))) (omega arith);
     nexts = λ k honest x l. own k honest .follows .turns .next-is x (omega arith);
     indexes = λ k honest. own k honest .index;
     ledger-index = h .books .balanced .index;

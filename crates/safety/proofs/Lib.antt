@@ -2,6 +2,8 @@ pub mod Papers
 pub mod Certificates
 pub mod Showing
 pub mod Books
+pub mod Followers
+pub mod Room
 pub mod Holding
 pub mod Running
 pub mod Paying

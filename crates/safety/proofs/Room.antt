@@ -48,4 +48,4 @@ follower-room l r C Certain given s did lawful own few = record {
         omega (arith, own .index, t .number, ap length (t .placed), length-append (t .newer) (t .older))
 
     confirmed : upTo (λ y. sumOf (isOf papers y) (debits did)) 64 ≤ 4_096 * 64
-    confirmed = few-each _ 64 (λ x k. omega (arith, own .follows .turns .next-is x k, next-most x (omega arith)))
+    confirmed = few-each (λ y. sumOf (isOf papers y) (debits did)) 64 (λ x k. omega (arith, own .follows .turns .next-is x k, next-most x (omega arith)))

@@ -30,6 +30,7 @@ use Rattle.records.specs.Balances.{nought, highest}
 use Rattle.records.specs.Records.{bit, recordAt, recordBytes, freshRecord, holding, paid, credited}
 use Rattle.records.specs.States.{Rules, base, place, recordOf, pendingOf, withRecord, freshState}
 use Rattle.records.specs.Calls as on-machine
+use Rattle.records.specs.Calls.{debited}
 use Rattle.invariants.specs.RecordLaws.{Formed, record-stays, record-behind, holding-formed, paid-formed, credited-formed}
 use Rattle.invariants.specs.Meaning.{WellFormed, Moved, Lays, KeepsAll}
 use Rattle.invariants.specs.Outcomes.{afterVote, afterPaid, afterDebit, afterSending, afterFunding, Repeated, Voted, Settled, Sent, Funded, order-cases, certificate-cases, funding-cases, order-comes, certificate-comes, funding-comes}
@@ -367,8 +368,8 @@ module _ (rules : Rules) (lays : Lays rules) (Certain : List ℕ → Type 0) (gi
         let w : Settled p (recordOf rules noting sender) = rw payer-stays v in
         let low : p .amount ≤ recordOf rules noting sender .balance = rw payer-stays (g .enough) in
         let new = reduced-formed noting noting-formed w (p .amount) in
-        rw payer-stays at (since s noting _ _ noting-moved
-        (takes-off noting noting-formed w (p .amount) _ (rw (← payer-stays) at (sending-moved rules lays s p g (rw payer-stays at (new .state))))
+        subst (λ (r : Record). Comes s (rules .sent (debited rules s p r) (p .recipient) (p .amount)) (Event.confirmed (inside m) ∷ h)) payer-stays
+        (since s noting _ _ noting-moved (takes-off noting noting-formed w (p .amount) _ (sending-moved rules lays s p _ (g .place) (new .state))
         (lowered noting noting-formed w (p .amount) low) certain (kept, g .kind, g .away)))
 
   module _ (s : List ℕ) (formed : WellFormed rules s) where
