@@ -20,6 +20,13 @@ pub rules-of-01 : (l : Layout) → rulesOf l ≡ base
 rules-of-01 Layout.plain = refl
 
 -- the books of a state that was moved balance by the same numbers
-pub moved-balanced : (rules : Rules) (s : List ℕ) (rules′ : Rules) (t : List ℕ) (orders funding paid : ℕ) → Moved rules s rules′ t → Balanced rules s orders funding paid
+pub moved-balanced : (rules : Rules) (s : List ℕ) (rules′ : Rules) (t : List ℕ) (orders funding paid : ℕ) → Moved rules s rules′ t
+    → Balanced rules s orders funding paid
     → Balanced rules′ t orders funding paid
-moved-balanced rules s rules′ t orders funding paid m b = record { state = m .state; index = m .index ∙ b .index; few = b .few; pot = omega (arith, m .pots, b .pot); most = b .most }
+moved-balanced rules s rules′ t orders funding paid m b = record {
+  state = m .state;
+  index = m .index ∙ b .index;
+  few = b .few;
+  pot = omega (arith, m .pots, b .pot);
+  most = b .most;
+}

@@ -42,7 +42,8 @@ pot-balanced rules l s amount orders funding paid h index few fits sum most = re
 }
 
 -- a pot of balanced books has room for an amount
-pot-has-room : {rules : Rules} {s : List ℕ} {orders funding paid : ℕ} (amount : ℕ) → Balanced rules s orders funding paid → isAmount amount ≡ true → isPot (pot s + amount) ≡ true
+pot-has-room : {rules : Rules} {s : List ℕ} {orders funding paid : ℕ} (amount : ℕ) → Balanced rules s orders funding paid → isAmount amount ≡ true
+    → isPot (pot s + amount) ≡ true
 pot-has-room {s = s} amount b v = le-leb (pot s + amount) _ (omega (arith, amount-most amount v))
 
 -- a refusal counts nothing
@@ -167,7 +168,8 @@ pub fundings-fit : (s : List ℕ) (f : ℕ) (calls : List Call) → fresh base s
 fundings-fit s f calls h each few = all-given (fresh base s f .state) 0 0 0 calls (fresh-balanced s f h) each (omega arith)
 
 -- after 65,535 of them the next one is refused with 17
-pub fundings-exhaust : (s : List ℕ) (f : ℕ) (calls : List Call) (out : List ℕ) (account amount : ℕ) → fresh base s f .answer .number ≡ 0 → areFundings calls ≡ true
+pub fundings-exhaust : (s : List ℕ) (f : ℕ) (calls : List Call) (out : List ℕ) (account amount : ℕ) → fresh base s f .answer .number ≡ 0
+    → areFundings calls ≡ true
     → length calls ≡ 65_535 → isAccount account ≡ true → isAmount amount ≡ true
     → (let t = afterAll base (fresh base s f .state) calls in fund base t out account amount ≡ unfunded 17 t out)
 fundings-exhaust s f calls out account amount h each all a v =

@@ -14,7 +14,7 @@ use Rattle.invariants.specs.Keeping.{header-stays, faults-stay, fresh-st
 use Rattle.invariants.specs.Moving.{unmoved}
 
 -- no bytes put are the same bytes
-pub put-none : (s : List ℕ) (at : ℕ) → s ≡ put s at []
+put-none : (s : List ℕ) (at : ℕ) → s ≡ put s at []
 unfolding put
 put-none s at = refl
 

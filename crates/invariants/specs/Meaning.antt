@@ -54,7 +54,8 @@ pub record Lays (rules : Rules) : Type 0 where
   pub sent-moves : (s : List ℕ) (account amount : ℕ) → isState rules s ≡ true → rules .maySend s ≡ true → Moved rules s rules (rules .sent s account amount)
   pub sent-size : (s : List ℕ) (account amount : ℕ) → length (rules .sent s account amount) ≡ length s
   pub sent-seats : (s : List ℕ) (account amount : ℕ) → rules .committee (rules .sent s account amount) ≡ rules .committee s
-  pub send-free : (s : List ℕ) (out into account : ℕ) (vs : List ℕ) → rules .maySend s ≡ true → rules .maySend (put (rules .tallied s out into) (place rules account) vs) ≡ true
+  pub send-free : (s : List ℕ) (out into account : ℕ) (vs : List ℕ) → rules .maySend s ≡ true
+      → rules .maySend (put (rules .tallied s out into) (place rules account) vs) ≡ true
 
 -- the byte at i is neither noted of balances nor sent
 abbrev pub Unnoted : Rules → ℕ → Type 0

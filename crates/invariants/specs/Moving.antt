@@ -31,7 +31,8 @@ module _ (rules : Rules) (s : List ℕ) (rules′ : Rules) (t : List ℕ) (m : M
   pub moved-formed : WellFormed rules s → WellFormed rules′ t
   moved-formed f = record {
     state = m .state;
-    records = λ x h. formed-window x t (place rules′ x) ∙ ap (λ (w : List ℕ). isRecord x w 0) (m .windows x h) ∙ sym (formed-window x s (place rules x)) ∙ f .records x h;
+    records = λ x h.
+        formed-window x t (place rules′ x) ∙ ap (λ (w : List ℕ). isRecord x w 0) (m .windows x h) ∙ sym (formed-window x s (place rules x)) ∙ f .records x h;
   }
 
   -- so as many certificates are confirmed, and balances keep their limits
@@ -62,10 +63,13 @@ module _ (rules : Rules) (l : Lays rules) (s : List ℕ) (out into : ℕ) where
       record {
         state = rw (tallied-length, eq-eqb (length s) (stateLength rules) size) (l .tally-free s out into (omega arith) noted (x .1));
         index = ap lastIndex (t .is-put) ∙ number-put-out two s (t .at) (t .bytes) 2 (λ j p q u v. omega (arith, t .behind-index));
-        windows = λ x k. ap (λ (z : List ℕ). window z (place rules x)) (t .is-put) ∙ cut-put-out s (t .at) (t .bytes) (place rules x) 72 (λ j p q u v. omega (arith, t .before-records));
+        windows = λ x k.
+            ap (λ (z : List ℕ). window z (place rules x)) (t .is-put)
+            ∙ cut-put-out s (t .at) (t .bytes) (place rules x) 72 (λ j p q u v. omega (arith, t .before-records));
       }
 
 -- a credit that is sent moves the state where the amount left
-pub sending-moved : (rules : Rules) → Lays rules → (s : List ℕ) (p : Payment) (r : Record) → rules .maySend s ≡ true → isState rules (debited rules s p r) ≡ true
+pub sending-moved : (rules : Rules) → Lays rules → (s : List ℕ) (p : Payment) (r : Record) → rules .maySend s ≡ true
+    → isState rules (debited rules s p r) ≡ true
     → Moved rules (debited rules s p r) rules (rules .sent (debited rules s p r) (p .recipient) (p .amount))
 sending-moved rules l s p r may h = l .sent-moves _ (p .recipient) (p .amount) h (l .send-free s (p .amount) 0 (p .sender .0) _ may)

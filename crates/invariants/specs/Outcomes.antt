@@ -98,10 +98,14 @@ abbrev pub afterSending : Rules → List ℕ → Payment → List ℕ
 afterSending rules s p = rules .sent (afterDebit rules s p) (p .recipient) (p .amount)
 
 abbrev pub afterTransfer : Rules → List ℕ → Payment → List ℕ
-afterTransfer rules s p = let account = p .recipient in withRecord rules (afterPaid rules s p (p .amount)) account (credited (recordOf rules s account) (p .amount))
+afterTransfer rules s p =
+    let account = p .recipient in
+    withRecord rules (afterPaid rules s p (p .amount)) account (credited (recordOf rules s account) (p .amount))
 
 abbrev pub afterFunding : Rules → List ℕ → Funding → List ℕ
-afterFunding rules s o = let account = o .account .0 in withRecord rules (withIndex (rules .tallied s 0 (o .amount)) (o .index .0)) account (credited (recordOf rules s account) (o .amount))
+afterFunding rules s o =
+    let account = o .account .0 in
+    withRecord rules (withIndex (rules .tallied s 0 (o .amount)) (o .index .0)) account (credited (recordOf rules s account) (o .amount))
 
 -- a new vote: its body, and the sender's record
 pub record Voted (body : List ℕ) (r : Record) : Type 0 where
@@ -193,7 +197,8 @@ fresh-comes P rules s f own refusal made =
     made (leb-true _ _ (t .0)) (leb-true _ _ (t .1))))
 
 -- no refusal that is passed on has the number 0
-pub passed : (P : Outcome → Type 0) (s : List ℕ) (n : ℕ) (rest : Outcome) → ((n : ℕ) → 0 < n → P (refused n s)) → (n ≡ 0 → P rest) → P (need (eqb n 0) (refused n s) rest)
+pub passed : (P : Outcome → Type 0) (s : List ℕ) (n : ℕ) (rest : Outcome) → ((n : ℕ) → 0 < n → P (refused n s)) → (n ≡ 0 → P rest)
+    → P (need (eqb n 0) (refused n s) rest)
 passed P s zero rest refusal given = given refl
 passed P s (suc n) rest refusal given = rw (eqb·suc-zero n) (refusal (suc n) (omega arith))
 
@@ -203,9 +208,10 @@ module _ (P : Outcome → Type 0) (rules : Rules) (s : List ℕ) (refusal : (n :
   test t n rest h = need-case P t (refused n s) rest (refusal n h)
 
   pub order-cases : (m verdicts : List ℕ)
-      → (rules .keeps (payment (inside m) .sender .0) ≡ true → Repeated rules s (inside m) → P (outcome voteRepeated s))
-      → (rules .keeps (payment (inside m) .sender .0) ≡ true → Voted (inside m) (recordOf rules s (payment (inside m) .sender .0)) → P (outcome voteNew (afterVote rules s (inside m))))
-      → P (order rules s m verdicts)
+      → (let a = payment (inside m) .sender .0 in
+      (rules .keeps a ≡ true → Repeated rules s (inside m) → P (outcome voteRepeated s))
+      → (rules .keeps a ≡ true → Voted (inside m) (recordOf rules s a) → P (outcome voteNew (afterVote rules s (inside m))))
+      → P (order rules s m verdicts))
   unfolding order vote voteOn
   order-cases m verdicts again new =
       let body = inside m in
@@ -234,8 +240,10 @@ module _ (P : Outcome → Type 0) (rules : Rules) (s : List ℕ) (refusal : (n :
       let confirms : List ℕ → Outcome = outcome (confirmedWith (rules .counted s (signersIn m))) in
       P (outcome (alreadyWith (rules .counted s (signersIn m))) s)
       → (judged → kept → Settled p from → toItself p ≡ true → P (confirms (afterPaid rules s p 0)))
-      → (judged → kept → Settled p from → p .kind ≡ 1 → p .amount ≤ from .balance → rules .mayTally s (p .amount) 0 ≡ true → P (confirms (afterDebit rules s p)))
-      → (judged → kept → Settled p from → rules .keeps (p .recipient) ≡ true → Transferred p from (recordOf rules s (p .recipient)) → P (confirms (afterTransfer rules s p)))
+      → (judged → kept → Settled p from → p .kind ≡ 1 → p .amount ≤ from .balance → rules .mayTally s (p .amount) 0 ≡ true
+      → P (confirms (afterDebit rules s p)))
+      → (judged → kept → Settled p from → rules .keeps (p .recipient) ≡ true → Transferred p from (recordOf rules s (p .recipient))
+      → P (confirms (afterTransfer rules s p)))
       → (judged → kept → Settled p from → Sent rules s p from → P (confirms (afterSending rules s p)))
       → P (certificate rules s m verdicts))
   unfolding certificate settle settleOn pay
@@ -262,15 +270,18 @@ module _ (P : Outcome → Type 0) (rules : Rules) (s : List ℕ) (refusal : (n :
       let kind : p .kind ≡ 0 = omega (arith, range .kind) in
       cond-case P (not (rules .keeps (p .recipient))) _ _ (λ elsewhere. test (rules .mayTally s (p .amount) 0) 16 _ (lit< tt) (λ noted.
       let away = not-true (rules .keeps (p .recipient)) elsewhere in
-      sent judged kept settled (record { kind = kind; away = away; place = rw (away, account) at place; enough = leb-true _ _ enough; noted = noted }))) (λ near.
+      let may : rules .maySend s ≡ true = rw (away, account) at place in
+      sent judged kept settled (record { kind = kind; away = away; place = may; enough = leb-true _ _ enough; noted = noted }))) (λ near.
       test (leb (to .balance + p .amount) highest) 16 _ (lit< tt) (λ room.
       transfer judged kept settled (not-false (rules .keeps (p .recipient)) near)
       (record { kind = kind; other = not-itself p other kind; enough = leb-true _ _ enough; room = leb-true _ _ room }))))))))))))))
 
   pub funding-cases : (m verdicts : List ℕ)
       → (let o = funding m in let r = recordOf rules s (o .account .0) in
-      (Presented m verdicts → rules .keeps (o .account .0) ≡ false → FundingRange o → o .index .0 ≡ lastIndex s + 1 → P (outcome done (withIndex s (o .index .0))))
-      → (Presented m verdicts → rules .keeps (o .account .0) ≡ true → Funded (lastIndex s) o r → rules .mayTally s 0 (o .amount) ≡ true → P (outcome done (afterFunding rules s o)))
+      (Presented m verdicts → rules .keeps (o .account .0) ≡ false → FundingRange o → o .index .0 ≡ lastIndex s + 1
+      → P (outcome done (withIndex s (o .index .0))))
+      → (Presented m verdicts → rules .keeps (o .account .0) ≡ true → Funded (lastIndex s) o r → rules .mayTally s 0 (o .amount) ≡ true
+      → P (outcome done (afterFunding rules s o)))
       → P (fundingOrder rules s m verdicts))
   unfolding fundingOrder credit creditOn
   funding-cases m verdicts elsewhere funded =
@@ -306,7 +317,8 @@ module _ (P : Outcome → Type 0) (rules : Rules) (s : List ℕ) (left : (answer
       → (Settled p from → Sent rules s p from → P (confirms (afterSending rules s p)))
       → P (certificate rules s m verdicts))
   certificate-comes m verdicts itself ledger transfer sent =
-      certificate-cases P rules s (λ n _. left (refuses n)) m verdicts (left (alreadyWith (rules .counted s (signersIn m)))) (λ _ _. itself) (λ _ _. ledger) (λ _ _ v _. transfer v) (λ _ _. sent)
+      certificate-cases P rules s (λ n _. left (refuses n)) m verdicts (left (alreadyWith (rules .counted s (signersIn m))))
+      (λ _ _. itself) (λ _ _. ledger) (λ _ _ v _. transfer v) (λ _ _. sent)
 
   pub funding-comes : (m verdicts : List ℕ)
       → (let o = funding m in

@@ -49,7 +49,8 @@ or-so : (t u : Bool) → u ≡ true → (t || u) ≡ true
 or-so true u e = refl
 or-so false u e = e
 
-pub order-not-16 : (rules : Rules) (s m verdicts : List ℕ) → WellFormed rules s → ((body : List ℕ) → rules .further body ≡ 16 → ⊥) → order rules s m verdicts .answer .number ≡ 16 → ⊥
+pub order-not-16 : (rules : Rules) (s m verdicts : List ℕ) → WellFormed rules s → ((body : List ℕ) → rules .further body ≡ 16 → ⊥)
+    → order rules s m verdicts .answer .number ≡ 16 → ⊥
 unfolding order vote voteOn
 order-not-16 rules s m verdicts h further =
     let p = payment (inside m) in
@@ -68,8 +69,10 @@ order-not-16 rules s m verdicts h further =
 
 -- a certificate of the next sequence whose credit has a place is confirmed
 module _ (P : Outcome → Type 0) (rules : Rules) (s m verdicts : List ℕ) (h : HasRoom rules s) (range : PaymentRange (payment (inside m)))
-    (kept : rules .keeps (payment (inside m) .sender .0) ≡ true) (confirms : (t : List ℕ) → P (outcome (confirmedWith (rules .counted s (signersIn m))) t)) where
-  pub pays : (let p = payment (inside m) in P (pay rules s p (rules .counted s (signersIn m)) (recordOf rules s (p .sender .0)) (recordOf rules s (p .recipient))))
+    (kept : rules .keeps (payment (inside m) .sender .0) ≡ true)
+    (confirms : (t : List ℕ) → P (outcome (confirmedWith (rules .counted s (signersIn m))) t)) where
+  pub pays : (let p = payment (inside m) in let counts = rules .counted s (signersIn m) in
+      P (pay rules s p counts (recordOf rules s (p .sender .0)) (recordOf rules s (p .recipient))))
   unfolding pay
   pays =
       let p = payment (inside m) in
@@ -77,12 +80,12 @@ module _ (P : Outcome → Type 0) (rules : Rules) (s m verdicts : List ℕ) (h :
       let to = recordOf rules s (p .recipient) in
       let noted = h .header (p .amount) 0 (range .amount) (lit≤ tt) in
       cond-case P (toItself p) _ _ (λ _. confirms _) (λ _.
-      need-holds P (leb (p .amount) (from .balance)) _ _ (le-leb (p .amount) (from .balance) (omega (arith, h .least (p .sender .0) (range .sender) kept, range .amount)))
+      need-holds P (leb (p .amount) (from .balance)) _ _
+      (le-leb (p .amount) (from .balance) (omega (arith, h .least (p .sender .0) (range .sender) kept, range .amount)))
       (cond-case P (eqb (p .kind) 1) _ _ (λ _. need-holds P (rules .mayTally s (p .amount) 0) _ _ noted (confirms _)) (λ account.
       cond-case P (not (rules .keeps (p .recipient))) _ _ (λ _. need-holds P (rules .mayTally s (p .amount) 0) _ _ noted (confirms _)) (λ near.
-      need-holds P (leb (to .balance + p .amount) highest) _ _
-      (le-leb (to .balance + p .amount) highest (omega (arith, h .most (p .recipient) (to-account p range account) (not-false (rules .keeps (p .recipient)) near), range .amount)))
-      (confirms _)))))
+      let most = h .most (p .recipient) (to-account p range account) (not-false (rules .keeps (p .recipient)) near) in
+      need-holds P (leb (to .balance + p .amount) highest) _ _ (le-leb (to .balance + p .amount) highest (omega (arith, most, range .amount))) (confirms _)))))
 
 -- the records that a certificate touches are well formed
 pub touched-formed : (rules : Rules) (s m : List ℕ) → WellFormed rules s → PaymentRange (payment (inside m))
@@ -117,11 +120,12 @@ funding-not-16 rules s m verdicts h =
     let range = funding-range o (funding-order m (eqb-true _ _ read) .1) in
     beyond told (eqb (length verdicts) 1) _ _ (λ e. omega arith) (λ _.
     beyond told (good verdicts) _ _ (λ e. omega arith) (λ _.
-    holds told (not (rules .keeps (o .account .0)) || isFormed rules s (o .account .0)) _ _ (or-so (not (rules .keeps (o .account .0))) _ (h .formed .records (o .account .0) (range .account)))
+    holds told (not (rules .keeps (o .account .0)) || isFormed rules s (o .account .0)) _ _
+    (or-so (not (rules .keeps (o .account .0))) _ (h .formed .records (o .account .0) (range .account)))
     (beyond told (eqb (o .index .0) (lastIndex s + 1)) _ _ (λ e. omega arith) (λ _.
     either told (not (rules .keeps (o .account .0))) _ _ (λ e. omega arith) (λ near.
-    holds told (leb (r .balance + o .amount) highest) _ _
-    (le-leb (r .balance + o .amount) highest (omega (arith, h .most (o .account .0) (range .account) (not-false (rules .keeps (o .account .0)) near), range .amount)))
+    let most = h .most (o .account .0) (range .account) (not-false (rules .keeps (o .account .0)) near) in
+    holds told (leb (r .balance + o .amount) highest) _ _ (le-leb (r .balance + o .amount) highest (omega (arith, most, range .amount)))
     (holds told (rules .mayTally s 0 (o .amount)) _ _ (h .header 0 (o .amount) (lit≤ tt) (range .amount)) (λ e. omega arith)))))))))
 
 pub account-not-16 : (rules : Rules) (s : List ℕ) (a : ℕ) → WellFormed rules s → account rules s a .answer .number ≡ 16 → ⊥

@@ -37,13 +37,15 @@ order-refused rules s m verdicts = order-comes (LeavesRefused s) rules s (λ _ _
 
 pub certificate-refused : (rules : Rules) (s m verdicts : List ℕ) → LeavesRefused s (certificate rules s m verdicts)
 certificate-refused rules s m verdicts =
-    certificate-comes (LeavesRefused s) rules s (λ _ _. refl) m verdicts (λ _ _ e. absurd (e refl)) (λ _ _ _ _ e. absurd (e refl)) (λ _ _ e. absurd (e refl)) (λ _ _ e. absurd (e refl))
+    certificate-comes (LeavesRefused s) rules s (λ _ _. refl) m verdicts
+    (λ _ _ e. absurd (e refl)) (λ _ _ _ _ e. absurd (e refl)) (λ _ _ e. absurd (e refl)) (λ _ _ e. absurd (e refl))
 
 pub funding-refused : (rules : Rules) (s m verdicts : List ℕ) → LeavesRefused s (fundingOrder rules s m verdicts)
 funding-refused rules s m verdicts = funding-comes (LeavesRefused s) rules s (λ _ _. refl) m verdicts (λ _ _ _ e. absurd (e refl)) (λ _ _ e. absurd (e refl))
 
 -- an answer leaves the length, and every byte outside the header's index, what the rules note in the header or send, and the touched records
-pub order-leaves : (rules : Rules) (s m verdicts : List ℕ) (i : ℕ) → (InRecord rules (payment (inside m) .sender .0) i → ⊥) → getD (order rules s m verdicts .state) i 0 ≡ getD s i 0
+pub order-leaves : (rules : Rules) (s m verdicts : List ℕ) (i : ℕ) → (InRecord rules (payment (inside m) .sender .0) i → ⊥)
+    → getD (order rules s m verdicts .state) i 0 ≡ getD s i 0
 order-leaves rules s m verdicts i out =
     order-comes (λ o. getD (o .state) i 0 ≡ getD s i 0) rules s (λ _. refl) m verdicts
     (λ _. record-leaves rules s (payment (inside m) .sender .0) _ i (holding-size _ (inside m)) out)
@@ -55,7 +57,8 @@ certificate-leaves rules s m verdicts i unnoted from to =
     let payer : (t : List ℕ) (n : ℕ) → _ = λ t n. record-leaves rules t (p .sender .0) (paid (recordOf rules s (p .sender .0)) n) i (paid-size _ n) from in
     let debit = payer (rules .tallied s (p .amount) 0) (p .amount) ∙ unnoted .0 s (p .amount) 0 in
     certificate-comes (λ o. getD (o .state) i 0 ≡ getD s i 0) rules s (λ _. refl) m verdicts (λ _ _. payer s 0) (λ _ _ _ _. debit)
-    (λ _ c. record-leaves rules (afterPaid rules s p (p .amount)) (p .recipient) _ i (credited-size rules s (p .recipient) (p .amount)) (to (c .kind)) ∙ payer s (p .amount))
+    (λ _ c. record-leaves rules (afterPaid rules s p (p .amount)) (p .recipient) _ i (credited-size rules s (p .recipient) (p .amount)) (to (c .kind))
+    ∙ payer s (p .amount))
     (λ _ _. unnoted .1 _ (p .recipient) (p .amount) ∙ debit)
 
 pub funding-leaves : (rules : Rules) (s m verdicts : List ℕ) (i : ℕ) → Unnoted rules i → (2 ≤ i → i < 4 → ⊥) → (InRecord rules (funding m .account .0) i → ⊥)
@@ -63,10 +66,12 @@ pub funding-leaves : (rules : Rules) (s m verdicts : List ℕ) (i : ℕ) → Unn
 funding-leaves rules s m verdicts i unnoted index out =
     let o = funding m in
     let l : length (bytes two (o .index .0)) ≡ 2 = length-bytes two (o .index .0) in
-    let indexed : (t : List ℕ) → getD (withIndex t (o .index .0)) i 0 ≡ getD t i 0 = λ t. getD-put-out t 2 (bytes two (o .index .0)) i (λ p q. index p (omega arith)) in
+    let indexed : (t : List ℕ) → getD (withIndex t (o .index .0)) i 0 ≡ getD t i 0 = λ t.
+    getD-put-out t 2 (bytes two (o .index .0)) i (λ p q. index p (omega arith)) in
     funding-comes (λ x. getD (x .state) i 0 ≡ getD s i 0) rules s (λ _. refl) m verdicts (λ _ _ _. indexed s)
-    (λ _ _. record-leaves rules (withIndex (rules .tallied s 0 (o .amount)) (o .index .0)) (o .account .0) _ i (credited-size rules s (o .account .0) (o .amount)) out
-    ∙ indexed (rules .tallied s 0 (o .amount)) ∙ unnoted .0 s 0 (o .amount))
+    (λ _ _. let t = rules .tallied s 0 (o .amount) in
+    record-leaves rules (withIndex t (o .index .0)) (o .account .0) _ i (credited-size rules s (o .account .0) (o .amount)) out
+    ∙ indexed t ∙ unnoted .0 s 0 (o .amount))
 
 pub order-length : (rules : Rules) (s m verdicts : List ℕ) → length (order rules s m verdicts .state) ≡ length s
 order-length rules s m verdicts = order-comes (λ o. length (o .state) ≡ length s) rules s (λ _. refl) m verdicts (λ _. length-put _ _ _)
@@ -124,8 +129,9 @@ pub funding-keeps : (rules : Rules) → Lays rules → (s m verdicts : List ℕ)
 funding-keeps rules l s m verdicts w =
     let o = funding m in
     funding-comes (λ x. WellFormed rules (x .state)) rules s (λ _. w) m verdicts (λ _ _ _. withIndex-keeps rules l s (o .index .0) w) (λ v noted.
-    let f = moved-formed rules s rules _ (tallied-moved rules l s 0 (o .amount) (w .state) noted) w in
-    withRecord-keeps rules l (withIndex (rules .tallied s 0 (o .amount)) (o .index .0)) (o .account .0) _ (v .range .account) (withIndex-keeps rules l _ (o .index .0) f)
+    let t = rules .tallied s 0 (o .amount) in
+    let f = moved-formed rules s rules t (tallied-moved rules l s 0 (o .amount) (w .state) noted) w in
+    withRecord-keeps rules l (withIndex t (o .index .0)) (o .account .0) _ (v .range .account) (withIndex-keeps rules l t (o .index .0) f)
     (credited-formed (o .account .0) _ (o .amount) (formed-of rules s (o .account .0) w (v .range .account)) (v .room)))
 
 -- a fresh state is limited, and every call keeps that
@@ -162,15 +168,17 @@ certificate-limited rules l s m verdicts h =
     let limited = moved-limited rules s rules t moved h in
     let e = moved-record rules s rules t moved (p .sender .0) (v .range .sender) in
     let w : Settled p (recordOf rules t (p .sender .0)) = rw e v in
-    rw e at (limited-more rules l t limited p w _ (follows-paid rules l t limited p w (p .amount) (v .range .amount)) (raised rules l t limited p w (p .amount))) in
+    let follows = follows-paid rules l t limited p w (p .amount) (v .range .amount) in
+    rw e at (limited-more rules l t limited p w _ follows (raised rules l t limited p w (p .amount))) in
     certificate-comes (λ o. Limited rules (o .state)) rules s (λ _. h) m verdicts
     (λ v _. limited-more rules l s h p v _ (follows-paid rules l s h p v 0 (lit≤ tt)) (raised rules l s h p v 0))
     (λ v _ _ noted. debit v noted)
     (λ v c. let k : p .recipient ≤ 63 = v .range .recipient (c .kind) in
     let f = credited-formed (p .recipient) to (p .amount) (formed-of rules s (p .recipient) (h .formed) k) (c .room) in
-    limited-more rules l s h p v _
-    (follows-record rules l 1 (lastIndex s) s _ (p .recipient) _ (follows-paid rules l s h p v (p .amount) (v .range .amount)) k f (changed-credited to (p .amount) (v .range .amount)))
-    (ap (λ (r : Record). r .next .0) (record-stays rules _ (p .recipient) (p .sender .0) _ (omega (arith, f .size)) (c .other)) ∙ raised rules l s h p v (p .amount)))
+    let follows = follows-paid rules l s h p v (p .amount) (v .range .amount) in
+    let stays = record-stays rules _ (p .recipient) (p .sender .0) _ (omega (arith, f .size)) (c .other) in
+    limited-more rules l s h p v _ (follows-record rules l 1 (lastIndex s) s _ (p .recipient) _ follows k f (changed-credited to (p .amount) (v .range .amount)))
+    (ap (λ (r : Record). r .next .0) stays ∙ raised rules l s h p v (p .amount)))
     (λ v g. let f = debit v (g .noted) in moved-limited rules _ rules _ (sending-moved rules l s p _ (g .place) (f .formed .state)) f)
 
 pub funding-limited : (rules : Rules) → Lays rules → (s m verdicts : List ℕ) → Limited rules s → Limited rules (fundingOrder rules s m verdicts .state)
@@ -185,9 +193,10 @@ funding-limited rules l s m verdicts h =
     let moved = tallied-moved rules l s 0 (o .amount) (h .formed .state) noted in
     let limited = moved-limited rules s rules t moved h in
     let e = moved-record rules s rules t moved a (v .range .account) in
+    let f = credited-formed a r (o .amount) (formed-of rules s a (h .formed) (v .range .account)) (v .room) in
     limited-still rules 1 i t _ limited
-    (follows-record rules l 1 i t (withIndex t i) a _ (follows-index rules l 1 t i (limited .formed) (v .range .index)) (v .range .account)
-    (credited-formed a r (o .amount) (formed-of rules s a (h .formed) (v .range .account)) (v .room)) (rw e (changed-credited r (o .amount) (v .range .amount))))
+    (follows-record rules l 1 i t (withIndex t i) a _ (follows-index rules l 1 t i (limited .formed) (v .range .index)) (v .range .account) f
+    (rw e (changed-credited r (o .amount) (v .range .amount))))
     (v .range .index) (omega (arith, v .index, moved .index)))
 
 -- every state that a machine comes to is limited
@@ -222,10 +231,13 @@ certificate-counts rules s m verdicts h good kept place turn =
     let p = payment (inside m) in
     let from = recordOf rules s (p .sender .0) in
     let range = body-range (inside m) (certificate-body (rules .committee s) m verdicts good) in
-    rw (h .formed .state, kept, good, h .formed .records (p .sender .0) (range .sender), touched-formed rules s m (h .formed) range, le-ltb (p .sequence .0) (from .next .0) (omega arith), eq-eqb _ _ turn, place)
+    let payer = h .formed .records (p .sender .0) (range .sender) in
+    let touched = touched-formed rules s m (h .formed) range in
+    rw (h .formed .state, kept, good, payer, touched, le-ltb (p .sequence .0) (from .next .0) (omega arith), eq-eqb _ _ turn, place)
     (pays (λ o. o .answer ≡ confirmedWith (rules .counted s (signersIn m))) rules s m verdicts h range kept (λ t. refl))
 
 -- what reading an account that is kept here shows of its balance
-pub account-balance : (rules : Rules) (s : List ℕ) (x : ℕ) → WellFormed rules s → x ≤ 63 → rules .keeps x ≡ true → account rules s x .balance ≡ signed (recordOf rules s x .balance)
+pub account-balance : (rules : Rules) (s : List ℕ) (x : ℕ) → WellFormed rules s → x ≤ 63 → rules .keeps x ≡ true
+    → account rules s x .balance ≡ signed (recordOf rules s x .balance)
 unfolding account
 account-balance rules s x formed h kept = rw (formed .state, le-leb x 63 h, kept, formed .records x h)

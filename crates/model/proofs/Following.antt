@@ -9,7 +9,7 @@ use native.Mathlib.Omega.{arith}
 use native.Mathlib.Nat.{zero-add}
 use Rattle.model.specs.Lists.{In, sumOf}
 use Rattle.model.specs.Histories.{Payments, Event, votes, debits, credits, fundings, isOf, fundTo, next, MayVote, Lawful}
-use Rattle.model.specs.Views.{Shown, GaveAs, Taken, Effect, events, Turns, Follows, SameTurns, Same, VotedNew, Turned, Settled, Debited, Delivered, Took, Noted, Changed, Grounded}
+use Rattle.model.specs.Views.{Shown, GaveAs, Taken, Effect, events, Turns, Follows, SameTurns, Same, VotedNew, Turned, Settled, Debited, Delivered, Rises, Took, Noted, Changed, Grounded}
 use Rattle.model.proofs.SumLaws.{sum-append, suffix-same, only-here, only-elsewhere}
 use Rattle.model.proofs.HistoryLaws.{vote-below, debit-below, credit-debit}
 
@@ -50,21 +50,24 @@ module _ (K : Payments) (accounts lift : ℕ) where
 
   -- ---- turns
 
-  turns-vote : (s t : Shown Body) (vs cs : List Body) (b : Body) → Turns K accounts lift s vs cs → VotedNew K accounts lift s t b → Turns K accounts lift t (b ∷ vs) cs
+  turns-vote : (s t : Shown Body) (vs cs : List Body) (b : Body) → Turns K accounts lift s vs cs → VotedNew K accounts lift s t b
+      → Turns K accounts lift t (b ∷ vs) cs
   turns-vote s t vs cs b f v = record {
     next-is = λ x k. v .nexts x k ∙ f .next-is x k;
     open-is = λ x k c e. held x k c e (ℕ-discrete x (sender b));
     shut-is = λ x k e c. clear x k e c (ℕ-discrete x (sender b));
   }
     where
-      held : (x : ℕ) → x < accounts → (c : Body) → t .pending x ≡ some c → Dec (x ≡ sender b) → In c (b ∷ vs) × (sender c ≡ x) × (sequence c ≡ sumOf (isOf K x) cs)
+      held : (x : ℕ) → x < accounts → (c : Body) → t .pending x ≡ some c → Dec (x ≡ sender b)
+          → In c (b ∷ vs) × (sender c ≡ x) × (sequence c ≡ sumOf (isOf K x) cs)
       held x k c e (yes q) =
           let z : t .pending x ≡ some b = rw q (v .stored) in
           let same : c ≡ b = cc in
           (inl same, ap sender same ∙ sym q, ap sequence same ∙ v .turn ∙ ap (s .next-of) (sym q) ∙ f .next-is x k)
       held x k c e (no q) = let r = f .open-is x k c (sym (v .others x k q) ∙ e) in (inr (r .0), r .1, r .2)
 
-      clear : (x : ℕ) → x < accounts → t .pending x ≡ none → (c : Body) → Dec (x ≡ sender b) → (c ≡ b) ⊎ In c vs → sender c ≡ x → sequence c ≡ sumOf (isOf K x) cs → ⊥
+      clear : (x : ℕ) → x < accounts → t .pending x ≡ none → (c : Body) → Dec (x ≡ sender b) → (c ≡ b) ⊎ In c vs → sender c ≡ x
+          → sequence c ≡ sumOf (isOf K x) cs → ⊥
       clear x k e c (yes q) i p r = none-some (t .pending x) b e (rw q (v .stored))
       clear x k e c (no q) (inl z) p r = q (cc)
       clear x k e c (no q) (inr i) p r = f .shut-is x k (sym (v .others x k q) ∙ e) c i p r
@@ -84,13 +87,15 @@ module _ (K : Payments) (accounts lift : ℕ) where
     shut-is = λ x k e d i p r. clear x k e d i p r (ℕ-discrete x (sender b));
   }
     where
-      held : (x : ℕ) → x < accounts → (d : Body) → t .pending x ≡ some d → Dec (x ≡ sender b) → In d vs × (sender d ≡ x) × (sequence d ≡ sumOf (isOf K x) (b ∷ cs))
+      held : (x : ℕ) → x < accounts → (d : Body) → t .pending x ≡ some d → Dec (x ≡ sender b)
+          → In d vs × (sender d ≡ x) × (sequence d ≡ sumOf (isOf K x) (b ∷ cs))
       held x k d e (yes q) = none-some (t .pending x) d (rw q (v .cleared)) e
       held x k d e (no q) =
           let r = f .open-is x k d (sym (v .others x k q) ∙ e) in
           (r .0, r .1, omega (arith, r .2, only-elsewhere (sender b) x 1 (λ y. q (sym y))))
 
-      clear : (x : ℕ) → x < accounts → t .pending x ≡ none → (d : Body) → In d vs → sender d ≡ x → sequence d ≡ sumOf (isOf K x) (b ∷ cs) → Dec (x ≡ sender b) → ⊥
+      clear : (x : ℕ) → x < accounts → t .pending x ≡ none → (d : Body) → In d vs → sender d ≡ x → sequence d ≡ sumOf (isOf K x) (b ∷ cs) → Dec (x ≡ sender b)
+          → ⊥
       clear x k e d i p r (yes q) =
           omega (arith, low d i, ap (λ (y : ℕ). sumOf (isOf K y) cs) p, r, only-here (sender b) x 1 (sym q))
       clear x k e d i p r (no q) =
@@ -106,11 +111,13 @@ module _ (K : Payments) (accounts lift : ℕ) where
   -- ---- effects
 
   -- an order taken bears an index up to the last, also where the indexes are equal
-  orders-stay : (given : List Order) (s t : Shown Body) (h : List (Event Body Order)) → ((y : ℕ) → y < accounts → t .last y ≡ s .last y) → Follows K accounts lift given s h
+  orders-stay : (given : List Order) (s t : Shown Body) (h : List (Event Body Order)) → ((y : ℕ) → y < accounts → t .last y ≡ s .last y)
+      → Follows K accounts lift given s h
       → (o : Order) → In o (fundings h) → (account o < accounts) × (index o ≤ t .last (account o))
   orders-stay given s t h indexes f o i = let r = f .orders o i in (r .0, rw (indexes (account o) (r .0)) (r .1))
 
-  pub follows-same : (given : List Order) (s t : Shown Body) (h : List (Event Body Order)) → Same K accounts lift s t → Follows K accounts lift given s h → Follows K accounts lift given t h
+  pub follows-same : (given : List Order) (s t : Shown Body) (h : List (Event Body Order)) → Same K accounts lift s t → Follows K accounts lift given s h
+      → Follows K accounts lift given t h
   follows-same given s t h v f = record {
     turns = turns-same s t (votes h) (debits h) (f .turns) (v .turns);
     money = λ x k. omega (arith, v .balances x k, f .money x k);
@@ -121,7 +128,8 @@ module _ (K : Payments) (accounts lift : ℕ) where
 
   module _ (Certain : Body → Type 0) (given : List Order) (h : List (Event Body Order)) (s t : Shown Body) where
     -- a new vote: it was allowed, and the state still follows
-    vote-new : (b : Body) → Follows K accounts lift given s h → VotedNew K accounts lift s t b → MayVote K h b × Follows K accounts lift given t (Event.voted b ∷ h)
+    vote-new : (b : Body) → Follows K accounts lift given s h → VotedNew K accounts lift s t b
+        → MayVote K h b × Follows K accounts lift given t (Event.voted b ∷ h)
     vote-new b f v = (
       record {
         turn = v .turn ∙ f .turns .next-is (sender b) (v .sender-in);
@@ -141,8 +149,16 @@ module _ (K : Payments) (accounts lift : ℕ) where
     vote-again : (b : Body) → Follows K accounts lift given s h → sender b < accounts → s .pending (sender b) ≡ some b
         → In b (votes h) × Follows K accounts lift given s (Event.voted b ∷ h)
     vote-again b f k e =
-        let i = f .turns .open-is (sender b) k b e in
-        (i .0, record { turns = turns-again s (votes h) (debits h) b (f .turns) (i .0); money = f .money; in-use = f .in-use; taken = f .taken; orders = f .orders })
+        let i = f .turns .open-is (sender b) k b e in (
+          i .0,
+          record {
+            turns = turns-again s (votes h) (debits h) b (f .turns) (i .0);
+            money = f .money;
+            in-use = f .in-use;
+            taken = f .taken;
+            orders = f .orders;
+          },
+        )
 
     -- a certificate's turn is the next, so it was neither confirmed nor credited before
     turn-is : (b : Body) → Follows K accounts lift given s h → Turned K accounts lift s t b → sequence b ≡ next K h (sender b)
@@ -181,7 +197,8 @@ module _ (K : Payments) (accounts lift : ℕ) where
     )
 
     -- and credited later
-    deliver : (b : Body) → Lawful K Certain given h → Follows K accounts lift given s h → Delivered K accounts lift s t b → In b (debits h) × (In b (credits h) → ⊥)
+    deliver : (b : Body) → Lawful K Certain given h → Follows K accounts lift given s h → Delivered K accounts lift s t b
+        → In b (debits h) × (In b (credits h) → ⊥)
         → Lawful K Certain given (Event.credited b ∷ h) × Follows K accounts lift given t (Event.credited b ∷ h)
     deliver b l f v g = (
       (g, l),
@@ -198,10 +215,13 @@ module _ (K : Payments) (accounts lift : ℕ) where
     take : (o : Order) → Lawful K Certain given h → Follows K accounts lift given s h → Took K accounts lift given s t o
         → Lawful K Certain given (Event.funded o ∷ h) × Follows K accounts lift given t (Event.funded o ∷ h)
     take o l f v = (
-      ((
-        λ i. omega (arith, f .orders o i .1, v .turn),
-        taken-le given _ (fundTo K (account o)) _ (take-next given _ (fundTo K (account o)) _ o (f .taken (account o) (v .in-range)) (v .owner)),
-      ), l),
+      (
+        (
+          λ i. omega (arith, f .orders o i .1, v .turn),
+          taken-le given _ (fundTo K (account o)) _ (take-next given _ (fundTo K (account o)) _ o (f .taken (account o) (v .in-range)) (v .owner)),
+        ),
+        l,
+      ),
       record {
         turns = turns-same s t (votes h) (debits h) (f .turns) (v .turns);
         money = λ x k. omega (arith, v .balances x k, f .money x k);
@@ -214,18 +234,15 @@ module _ (K : Payments) (accounts lift : ℕ) where
       },
     )
       where
-        own : ((t .last (account o) ≡ suc (s .last (account o))) × GaveAs given o (suc (s .last (account o)))) ⊎ ((t .last (account o) ≡ s .last (account o)) × (account o ≡ account o → ⊥))
-            → index o ≤ t .last (account o)
+        own : Rises K accounts lift given s t o (account o) ⊎ ((t .last (account o) ≡ s .last (account o)) × (account o ≡ account o → ⊥)) → index o ≤ t .last (account o)
         own (inl r) = omega (arith, v .turn, r .0)
         own (inr r) = absurd (r .1 refl)
 
-        grows : (x n : ℕ) → n ≤ s .last x
-            → ((t .last x ≡ suc (s .last x)) × GaveAs given o (suc (s .last x))) ⊎ ((t .last x ≡ s .last x) × (account o ≡ x → ⊥)) → n ≤ t .last x
+        grows : (x n : ℕ) → n ≤ s .last x → Rises K accounts lift given s t o x ⊎ ((t .last x ≡ s .last x) × (account o ≡ x → ⊥)) → n ≤ t .last x
         grows x n l (inl r) = omega (arith, r .0)
         grows x n l (inr r) = omega (arith, r .0)
 
-        step : (x n : ℕ) → Taken given (s .last x) (fundTo K x) n
-            → ((t .last x ≡ suc (s .last x)) × GaveAs given o (suc (s .last x))) ⊎ ((t .last x ≡ s .last x) × (account o ≡ x → ⊥))
+        step : (x n : ℕ) → Taken given (s .last x) (fundTo K x) n → Rises K accounts lift given s t o x ⊎ ((t .last x ≡ s .last x) × (account o ≡ x → ⊥))
             → Taken given (t .last x) (fundTo K x) (fundTo K x o + n)
         step x n y (inl r) = rw (r .0) (take-next given (s .last x) (fundTo K x) n o y (r .1))
         step x n y (inr r) = rw (r .0, only-elsewhere (account o) x (value o) (r .1)) (rw zero-add y)
@@ -240,15 +257,15 @@ module _ (K : Payments) (accounts lift : ℕ) where
       orders = λ p i. let r = f .orders p i in (r .0, grows (account p) (index p) (r .1) (v .indexes (account p) (r .0)));
     }
       where
-        step : (x n : ℕ) → Taken given (s .last x) (fundTo K x) n → ((t .last x ≡ suc (s .last x)) × GaveAs given o (suc (s .last x)) × (account o ≡ x → ⊥)) ⊎ (t .last x ≡ s .last x)
+        step : (x n : ℕ) → Taken given (s .last x) (fundTo K x) n → (Rises K accounts lift given s t o x × (account o ≡ x → ⊥)) ⊎ (t .last x ≡ s .last x)
             → Taken given (t .last x) (fundTo K x) n
         step x n y (inl r) =
-            let z : fundTo K x o + n ≡ n = omega (arith, only-elsewhere (account o) x (value o) (r .2)) in
-            rw (r .0) (rw z at (take-next given (s .last x) (fundTo K x) n o y (r .1)))
+            let z : fundTo K x o + n ≡ n = omega (arith, only-elsewhere (account o) x (value o) (r .1)) in
+            rw (r .0 .0) (rw z at (take-next given (s .last x) (fundTo K x) n o y (r .0 .1)))
         step x n y (inr r) = rw r y
 
-        grows : (x n : ℕ) → n ≤ s .last x → ((t .last x ≡ suc (s .last x)) × GaveAs given o (suc (s .last x)) × (account o ≡ x → ⊥)) ⊎ (t .last x ≡ s .last x) → n ≤ t .last x
-        grows x n l (inl r) = omega (arith, r .0)
+        grows : (x n : ℕ) → n ≤ s .last x → (Rises K accounts lift given s t o x × (account o ≡ x → ⊥)) ⊎ (t .last x ≡ s .last x) → n ≤ t .last x
+        grows x n l (inl r) = omega (arith, r .0 .0)
         grows x n l (inr r) = omega (arith, r)
 
   -- every effect is lawful, and the new state follows the longer history
@@ -290,7 +307,8 @@ module _ (K : Payments) (accounts lift : ℕ) where
   }
 
   -- a state that shows the same as another changes as that one
-  pub changed-since : (given : List Order) (r s t : Shown Body) (e : Effect Body Order) → Same K accounts lift r s → Changed K accounts lift given s t e → Changed K accounts lift given r t e
+  pub changed-since : (given : List Order) (r s t : Shown Body) (e : Effect Body Order) → Same K accounts lift r s → Changed K accounts lift given s t e
+      → Changed K accounts lift given r t e
   changed-since given r s t Effect.nothing m v = same-since r s t m v
   changed-since given r s t (Effect.newVote b) m v = record {
     sender-in = v .sender-in;
@@ -357,7 +375,8 @@ module _ (K : Payments) (accounts lift : ℕ) where
   }
 
   -- a state that shows nothing done follows the empty history
-  pub follows-fresh : (given : List Order) (s : Shown Body) → ((x : ℕ) → x < accounts → (s .next-of x ≡ 0) × (s .pending x ≡ none) × (s .balance x ≡ lift) × (s .last x ≡ 0) × (s .used x ≡ 0))
+  pub follows-fresh : (given : List Order) (s : Shown Body)
+      → ((x : ℕ) → x < accounts → (s .next-of x ≡ 0) × (s .pending x ≡ none) × (s .balance x ≡ lift) × (s .last x ≡ 0) × (s .used x ≡ 0))
       → Follows K accounts lift given s []
   follows-fresh given s z = record {
     turns = record { next-is = λ x k. z x k .0; open-is = λ x k b e. none-some (s .pending x) b (z x k .1) e; shut-is = λ x k e c i p r. i };
@@ -368,7 +387,8 @@ module _ (K : Payments) (accounts lift : ℕ) where
   }
 
   -- more orders of the ledger do not disturb a machine
-  pub follows-given : (given more all : List Order) (s : Shown Body) (h : List (Event Body Order)) → more ++ given ≡ all → Follows K accounts lift given s h → Follows K accounts lift all s h
+  pub follows-given : (given more all : List Order) (s : Shown Body) (h : List (Event Body Order)) → more ++ given ≡ all → Follows K accounts lift given s h
+      → Follows K accounts lift all s h
   follows-given given more all s h e f = record {
     turns = f .turns;
     money = f .money;

@@ -52,7 +52,8 @@ module _ (K : Payments) (accounts lift : ℕ) where
   confirmed-moderate b h most in-range m c = elim [ inl e ↦ rw e (most, in-range) | inr i ↦ m .paid c i ]
 
   -- whatever a call did
-  pub moderate-still : (given : List Order) (s t : Shown Body) (h : List (Event Body Order)) (e : Effect Body Order) → Changed K accounts lift given s t e → Modest e → Moderate h
+  pub moderate-still : (given : List Order) (s t : Shown Body) (h : List (Event Body Order)) (e : Effect Body Order) → Changed K accounts lift given s t e
+      → Modest e → Moderate h
       → Moderate (events e ++ h)
   moderate-still given s t h Effect.nothing v a m = m
   moderate-still given s t h (Effect.newVote b) v a m = record { paid = m .paid; funded = m .funded }
@@ -63,7 +64,12 @@ module _ (K : Payments) (accounts lift : ℕ) where
   moderate-still given s t h (Effect.took o) v a m = record { paid = m .paid; funded = λ p. elim [ inl e ↦ rw e a | inr i ↦ m .funded p i ] }
   moderate-still given s t h (Effect.noted o) v a m = m
 
-  module _ (Certain : Body → Type 0) (given : List Order) (h : List (Event Body Order)) (s : Shown Body) (l : Lawful K Certain given h) (f : Follows K accounts lift given s h) (m : Moderate h) where
+  module _ (Certain : Body → Type 0) (given : List Order) (h : List (Event Body Order)) (s : Shown Body) (l : Lawful K Certain given h)
+      (f : Follows K accounts lift given s h) (m : Moderate h) where
+    -- a body credited was confirmed
+    was-confirmed : (b : Body) → In b (credits h) → In b (debits h)
+    was-confirmed = credit-debit K Certain given h l
+
     -- there are as many confirmed payments as the next sequences say
     confirmed-all : length (debits h) ≡ upTo (λ x. sumOf (isOf K x) (debits h)) accounts
     confirmed-all = sym (ones (debits h)) ∙ same (debits h) (λ b i. m .paid b i .1) ∙ sym (swap (isOf K) accounts (debits h))
@@ -75,12 +81,17 @@ module _ (K : Payments) (accounts lift : ℕ) where
     -- no more credits than confirmed payments
     credits-fewer : length (credits h) ≤ length (debits h)
     credits-fewer =
-        omega (arith, ones (credits h), ones (debits h), sum-sub (λ b. 1) (credits h) (debits h) (credit-once K Certain given h l) (λ b i p. credit-debit K Certain given h l b i))
+        omega (arith, ones (credits h), ones (debits h), sum-sub (λ b. 1) (credits h) (debits h) (credit-once K Certain given h l) (λ b i p. was-confirmed b i))
 
     -- a balance is at least minus 10^9 times its own confirmed payments
     pub least : (x : ℕ) → x < accounts → lift ≤ s .balance x + 1_000_000_000 * s .next-of x
     least x k =
-        omega (arith, f .money x k, f .turns .next-is x k, scaled-sum (outOf K x) (isOf K x) (debits h) (λ b i. scaled (eqb (sender b) x) (amount b) (m .paid b i .0)))
+        omega (
+          arith,
+          f .money x k,
+          f .turns .next-is x k,
+          scaled-sum (outOf K x) (isOf K x) (debits h) (λ b i. scaled (eqb (sender b) x) (amount b) (m .paid b i .0)),
+        )
 
     -- and at most 10^9 times (funding orders taken + payments confirmed)
     pub most : (x : ℕ) → x < accounts → s .balance x ≤ lift + 1_000_000_000 * (length (fundings h) + upTo (λ y. sumOf (isOf K y) (debits h)) accounts)
@@ -93,5 +104,6 @@ module _ (K : Payments) (accounts lift : ℕ) where
           ones (fundings h),
           ones (credits h),
           scaled-sum (fundTo K x) (λ o. 1) (fundings h) (λ o i. omega (arith, only-le (eqb (account o) x) (value o), m .funded o i)),
-          scaled-sum (into K x) (λ b. 1) (credits h) (λ b i. omega (arith, only-le (eqb (kind b) 0 && eqb (recipient b) x) (amount b), m .paid b (credit-debit K Certain given h l b i) .0)),
+          scaled-sum (into K x) (λ b. 1) (credits h)
+              (λ b i. omega (arith, only-le (eqb (kind b) 0 && eqb (recipient b) x) (amount b), m .paid b (was-confirmed b i) .0)),
         )

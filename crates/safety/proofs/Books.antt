@@ -115,7 +115,8 @@ module _ (rules : Rules) (lays : Lays rules) (s : List ℕ) (given paid : List (
       }
     where
       -- the fields for the body paid, and for those before it
-      log-has : (b : List ℕ) → In b (inside m ∷ paid) → isRedeemed rules (redeem rules s m verdicts .state) (payment b .sender .0) (payment b .sequence .0) ≡ true
+      log-has : (b : List ℕ) → In b (inside m ∷ paid)
+          → isRedeemed rules (redeem rules s m verdicts .state) (payment b .sender .0) (payment b .sequence .0) ≡ true
       log-has b (inl q) = rw q (redeem-logs rules lays s m verdicts e)
       log-has b (inr i) = redeem-stays rules lays s m verdicts _ _ (books .ledgers b i .0) (books .log-has b i)
 
@@ -150,7 +151,8 @@ redeem-found rules s m verdicts e =
     (passed (λ o. o .answer .number ≡ 0 → n ≡ 0) s n _ (λ k h e. absurd (omega arith)) (λ judged _. judged) (rw (may .state) at e), may .kind, may .unredeemed)
 
 -- the committee stays
-pub fund-seats : (rules : Rules) → Lays rules → (s out : List ℕ) (account amount : ℕ) → rules .committee (fund rules s out account amount .state) ≡ rules .committee s
+pub fund-seats : (rules : Rules) → Lays rules → (s out : List ℕ) (account amount : ℕ)
+    → rules .committee (fund rules s out account amount .state) ≡ rules .committee s
 fund-seats rules lays s out account amount =
     fund-comes (λ o. rules .committee (o .state) ≡ rules .committee s) rules s out account amount (λ _ _. refl) (λ _. lays .pot-seats _ _ ∙ lays .index-seats s _)
 
@@ -161,7 +163,8 @@ redeem-seats rules lays s m verdicts =
     (λ _. lays .pot-seats _ _ ∙ lays .logs-seats s (place rules (payment (inside m) .sender .0) (payment (inside m) .sequence .0)) _ (omega arith))
 
 -- the books of a state that was moved
-pub moved-books : (rules : Rules) (s : List ℕ) (rules′ : Rules) (t : List ℕ) (given paid : List (List ℕ)) → Moved rules s rules′ t → Books rules s given paid → Books rules′ t given paid
+pub moved-books : (rules : Rules) (s : List ℕ) (rules′ : Rules) (t : List ℕ) (given paid : List (List ℕ)) → Moved rules s rules′ t → Books rules s given paid
+    → Books rules′ t given paid
 moved-books rules s rules′ t given paid m b = record {
   balanced = moved-balanced rules s rules′ t _ _ _ m (b .balanced);
   numbered = b .numbered;

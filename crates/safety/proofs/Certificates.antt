@@ -50,7 +50,8 @@ counting-seats f = record {
 }
 
 -- two headers that name the same committee judge alike
-pub judged-alike : (C : quorums.Committee) (c d : wire.Committee) → Seats C c → Seats C d → (m verdicts : List ℕ) → judgedBy c m verdicts ≡ judgedBy d m verdicts
+pub judged-alike : (C : quorums.Committee) (c d : wire.Committee) → Seats C c → Seats C d → (m verdicts : List ℕ)
+    → judgedBy c m verdicts ≡ judgedBy d m verdicts
 unfolding judgedBy
 judged-alike C c d a b m verdicts =
     let ks = wire.signersIn m in
@@ -94,7 +95,8 @@ abbrev pub Vouched : (ℕ → Bool) → Moment → wire.Committee → List ℕ �
 Vouched dishonest w c m verdicts = Judged c m verdicts → (k : ℕ) → In k (wire.signersIn m) → dishonest k ≡ false → In (inside m) (votes (w .did k))
 
 -- so its body is certain, by weight
-pub certified : (C : quorums.Committee) (c : wire.Committee) → Seats C c → (dishonest : ℕ → Bool) (w : Moment) (m verdicts : List ℕ) → judgedBy c m verdicts .number ≡ 0
+pub certified : (C : quorums.Committee) (c : wire.Committee) → Seats C c → (dishonest : ℕ → Bool) (w : Moment) (m verdicts : List ℕ)
+    → judgedBy c m verdicts .number ≡ 0
     → Vouched dishonest w c m verdicts → model.Certain papers C dishonest (world w) (inside m)
 certified C c seats dishonest w m verdicts good voted =
     let j = judged c m verdicts good in
@@ -102,7 +104,8 @@ certified C c seats dishonest w m verdicts good voted =
     (λ k i. (omega (arith, known-most (wire.signersIn m) (c .last) k (j .members) i, seats .last), voted j k i)) (ltb-true _ _ (sym (seats .weighs (wire.signersIn m) (j .members)) ∙ j .enough))
 
 -- fair verdicts vouch, whichever header names the committee
-pub fair-votes : (f : ℕ) (dishonest : ℕ → Bool) (w : Moment) (m verdicts : List ℕ) → FairVotes f dishonest w m verdicts → (c : wire.Committee) → Seats (quorums.counting f) c
+pub fair-votes : (f : ℕ) (dishonest : ℕ → Bool) (w : Moment) (m verdicts : List ℕ) → FairVotes f dishonest w m verdicts → (c : wire.Committee)
+    → Seats (quorums.counting f) c
     → Vouched dishonest w c m verdicts
 unfolding quorums.counting
 fair-votes f dishonest w m verdicts fair c seats j k i h =

@@ -75,7 +75,8 @@ module _ (f : ℕ) (dishonest : ℕ → Bool) (few : AtMostF f dishonest) (w : M
   good-by c seats m verdicts good = rw (judged-alike (counting f) c (committee f) seats (counting-seats f) m verdicts) good
 
   -- a good certificate to the ledger, not yet paid, is paid whole
-  paid-whole : (m verdicts : List ℕ) → Good f dishonest m verdicts → FairVotes f dishonest w m verdicts → payment (inside m) .kind ≡ 1 → (In (inside m) (w .paid) → ⊥)
+  paid-whole : (m verdicts : List ℕ) → Good f dishonest m verdicts → FairVotes f dishonest w m verdicts → payment (inside m) .kind ≡ 1
+      → (In (inside m) (w .paid) → ⊥)
       → answer w (Call.redeem m verdicts) ≡ paid (payment (inside m) .recipient) (payment (inside m) .amount)
   paid-whole m verdicts good fair =
       pays-whole (counting f) dishonest minority w h m verdicts (good-by _ (h .seats) m verdicts good) (fair-votes f dishonest w m verdicts fair)

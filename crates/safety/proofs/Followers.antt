@@ -49,7 +49,8 @@ moved-follower l r C given s did l′ r′ t m seats f = record {
 }
 
 -- more orders of the ledger do not disturb it
-pub given-follower : (l : Layout) (r : Refusals) (C : quorums.Committee) (given : List (List ℕ)) (o s : List ℕ) (did : List (Event (List ℕ) (List ℕ))) → Follower l r C given s did
+pub given-follower : (l : Layout) (r : Refusals) (C : quorums.Committee) (given : List (List ℕ)) (o s : List ℕ) (did : List (Event (List ℕ) (List ℕ)))
+    → Follower l r C given s did
     → Follower l r C (o ∷ given) s did
 given-follower l r C given o s did f = record {
   follows = follows-given papers 64 nought given (o ∷ []) (o ∷ given) (shown (rulesOf l r) s) did refl (f .follows);
@@ -82,15 +83,19 @@ module _ (l : Layout) (r : Refusals) (C : quorums.Committee) (Certain : List ℕ
       → rulesOf l r .committee t ≡ rulesOf l r .committee s → Follow t longer
   does t longer d formed same =
       let both = obeys papers 64 nought Certain given did (shown (rulesOf l r) s) (shown (rulesOf l r) t) (d .effect) lawful (own .follows) (d .changed) (d .grounded) in
-      rw (d .history) (both .0, record {
-        follows = both .1;
-        index = indexed (rulesOf l r) given s t did (d .effect) (d .here) (d .changed) (own .index);
-        formed = formed;
-        seats = rw same (own .seats);
-        moderate = moderate-still papers 64 nought given (shown (rulesOf l r) s) (shown (rulesOf l r) t) did (d .effect) (d .changed) (d .modest) (own .moderate);
-      })
+      rw (d .history) (
+        both .0,
+        record {
+          follows = both .1;
+          index = indexed (rulesOf l r) given s t did (d .effect) (d .here) (d .changed) (own .index);
+          formed = formed;
+          seats = rw same (own .seats);
+          moderate = moderate-still papers 64 nought given (shown (rulesOf l r) s) (shown (rulesOf l r) t) did (d .effect) (d .changed) (d .modest) (own .moderate);
+        },
+      )
 
-  pub order-follows : (m verdicts : List ℕ) → (let o = on-machine.order (rulesOf l r) s m verdicts in Follow (o .state) (noted (o .answer) (Event.voted (inside m)) did))
+  pub order-follows : (m verdicts : List ℕ)
+      → (let o = on-machine.order (rulesOf l r) s m verdicts in Follow (o .state) (noted (o .answer) (Event.voted (inside m)) did))
   order-follows m verdicts =
       does _ _ (order-does (rulesOf l r) (lays l r) Certain given did m verdicts s (own .formed)) (order-keeps (rulesOf l r) (lays l r) s m verdicts (own .formed))
       (order-seats (rulesOf l r) (lays l r) s m verdicts)

@@ -72,7 +72,8 @@ module _ (C : quorums.Committee) (dishonest : ℕ → Bool) where
 
   -- a machine did something
   holds-acts : (w : Moment) → Holds w → (k : ℕ) → Honest k → (t : List ℕ) (longer : History) → ((b : List ℕ) → In b (votes (w .did k)) → In b (votes longer))
-      → Lawful papers (model.Certain papers C dishonest (world w)) (w .given) longer × Follower (w .layouts k) (w .refusals k) C (w .given) t longer → Holds (acts w k t longer)
+      → Lawful papers (model.Certain papers C dishonest (world w)) (w .given) longer × Follower (w .layouts k) (w .refusals k) C (w .given) t longer
+      → Holds (acts w k t longer)
   holds-acts w h k honest t longer keep new = record {
     sound = sound-acted papers C dishonest (world w) (h .sound) k longer keep (new .0);
     machines = λ n l other. at n l other (eqb k n) refl;
@@ -91,12 +92,14 @@ module _ (C : quorums.Committee) (dishonest : ℕ → Bool) where
   given-sound w true o s = sound-gave papers C dishonest w s o
   given-sound w false o s = s
 
-  given-more : (l : Layout) (r : Refusals) (given : List (List ℕ)) (t : Bool) (o s : List ℕ) (did : History) → Follower l r C given s did → Follower l r C (cond t (o ∷ given) given) s did
+  given-more : (l : Layout) (r : Refusals) (given : List (List ℕ)) (t : Bool) (o s : List ℕ) (did : History) → Follower l r C given s did
+      → Follower l r C (cond t (o ∷ given) given) s did
   given-more l r given true o s did f = given-follower l r C given o s did f
   given-more l r given false o s did f = f
 
   -- a body that the ledger pays is certain, pays the ledger and was not paid before
-  may-pay : (w : Moment) → Holds w → (m verdicts : List ℕ) → Truthful w m verdicts → on-ledger.redeem (ledger-rules w) (w .ledger) m verdicts .answer .number ≡ 0
+  may-pay : (w : Moment) → Holds w → (m verdicts : List ℕ) → Truthful w m verdicts
+      → on-ledger.redeem (ledger-rules w) (w .ledger) m verdicts .answer .number ≡ 0
       → model.MayPay papers C dishonest (world w) (inside m)
   may-pay w h m verdicts truth e =
       let r = redeem-found (ledger-rules w) (w .ledger) m verdicts e in

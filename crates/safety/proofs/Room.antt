@@ -26,7 +26,8 @@ few-each g (suc n) h = omega (arith, h n (omega arith), few-each g n (λ x k. h 
 below : (balance next : ℕ) → nought ≤ balance + 1_000_000_000 * next → next ≤ 4_096 → 1_000_000_000 ≤ balance
 below balance next h n = omega arith
 
-above : (balance orders confirmed : ℕ) → balance ≤ nought + 1_000_000_000 * (orders + confirmed) → orders ≤ 65_535 → confirmed ≤ 4_096 * 64 → balance + 1_000_000_000 ≤ highest
+above : (balance orders confirmed : ℕ) → balance ≤ nought + 1_000_000_000 * (orders + confirmed) → orders ≤ 65_535 → confirmed ≤ 4_096 * 64
+    → balance + 1_000_000_000 ≤ highest
 above balance orders confirmed h o c = omega arith
 
 -- the ledger gave at most 65,535 orders, so that no more were taken

@@ -23,7 +23,8 @@ use Rattle.safety.proofs.Followers.{Follower, moved-follower}
 use Rattle.safety.proofs.Holding as holding
 
 -- a fresh state names 3f + 1 machines
-machine-seats : (l : machine.Layout) (r : machine.Refusals) (f k : ℕ) → machine.Has l f → Seats (counting f) (machine.rulesOf l r .committee (machine.freshIn l f k))
+machine-seats : (l : machine.Layout) (r : machine.Refusals) (f k : ℕ) → machine.Has l f
+    → Seats (counting f) (machine.rulesOf l r .committee (machine.freshIn l f k))
 unfolding machine.freshState number bytes
 machine-seats machine.Layout.plain r f k has = counting-seats f
 
@@ -41,7 +42,8 @@ plain-follower f k h l = record {
   moderate = record { paid = λ b i. absurd i; funded = λ o i. absurd i };
 }
 
-fresh-follower : (l : machine.Layout) (f k : ℕ) → f ≤ 5 → machine.Has l f → k ≤ 3 * f → Follower l machine.Refusals.none (counting f) [] (machine.freshIn l f k) []
+fresh-follower : (l : machine.Layout) (f k : ℕ) → f ≤ 5 → machine.Has l f → k ≤ 3 * f
+    → Follower l machine.Refusals.none (counting f) [] (machine.freshIn l f k) []
 fresh-follower l f k h has own =
     moved-follower machine.Layout.plain machine.Refusals.none (counting f) [] (machine.freshState machine.base f k) [] l machine.Refusals.none (machine.freshIn l f k)
     (machine-layouts.fresh-moved l machine.Refusals.none f k has own) (machine-seats l machine.Refusals.none f k has) (plain-follower f k h own)

@@ -51,7 +51,8 @@ record-after rules s a r w h f y = go (eqb a y) refl
 
 -- what holds of the record written, and of each other one, holds of every account's afterwards
 each : (rules : Rules) (s : List ℕ) (a : ℕ) (r : Record) → WellFormed rules s → a ≤ 63 → Formed a r
-    → (Q : ℕ → Record → Bool → Type 0) → Q a r true → ((y : ℕ) → Q y (recordOf rules s y) false) → (y : ℕ) → Q y (recordOf rules (withRecord rules s a r) y) (eqb a y)
+    → (Q : ℕ → Record → Bool → Type 0) → Q a r true → ((y : ℕ) → Q y (recordOf rules s y) false) → (y : ℕ)
+    → Q y (recordOf rules (withRecord rules s a r) y) (eqb a y)
 each rules s a r w h f Q here there y = subst (λ (x : Record). Q y x (eqb a y)) (sym (record-after rules s a r w h f y)) (go (eqb a y) refl)
   where
     go : (t : Bool) → eqb a y ≡ t → Q y (cond t r (recordOf rules s y)) t
@@ -71,7 +72,8 @@ opened-holding r body b =
     rw (ne-eqb (length body) 0 (λ e. omega arith), cut-put (replicate 57 0) 0 body (omega arith))
 
 -- the pending body of a state is the open one of its record
-opened-pending : (rules : Rules) (s : List ℕ) (a : ℕ) → WellFormed rules s → a ≤ 63 → 0 < recordOf rules s a .waiting → opened (recordOf rules s a) ≡ some (pendingOf rules s a)
+opened-pending : (rules : Rules) (s : List ℕ) (a : ℕ) → WellFormed rules s → a ≤ 63 → 0 < recordOf rules s a .waiting
+    → opened (recordOf rules s a) ≡ some (pendingOf rules s a)
 unfolding recordAt
 opened-pending rules s a w h waits =
     let r = recordOf rules s a in
@@ -254,7 +256,8 @@ module _ (rules : Rules) (lays : Lays rules) (Certain : List ℕ → Type 0) (gi
       reduced-stays y other = record-stays rules s sender y _ (omega (arith, payer-formed .size)) (λ e. other (sym e))
 
       -- what holds of the sender's new record, and of each other one, holds of every account's afterwards
-      paying : (Q : ℕ → Record → Bool → Type 0) → Q sender (paid from n) true → ((y : ℕ) → Q y (recordOf rules s y) false) → (y : ℕ) → Q y (recordOf rules reduced y) (eqb sender y)
+      paying : (Q : ℕ → Record → Bool → Type 0) → Q sender (paid from n) true → ((y : ℕ) → Q y (recordOf rules s y) false) → (y : ℕ)
+          → Q y (recordOf rules reduced y) (eqb sender y)
       paying = each rules s sender _ formed (v .range .sender) payer-formed
 
       -- the balances and the marks afterwards
@@ -267,7 +270,8 @@ module _ (rules : Rules) (lays : Lays rules) (Certain : List ℕ → Type 0) (gi
       marked = paying (λ y r t. bit (r .used) ≡ min (bit (recordOf rules s y .used) + only t 1) 1) (omega arith) (λ y. omega (arith, bit-le (recordOf rules s y .used)))
 
       -- where the turns stay from then on, its sender's turn is over
-      turned : (t : List ℕ) → SameTurns papers 64 nought (shown rules reduced) (shown rules t) → lastIndex t ≡ lastIndex reduced → Turned papers 64 nought (shown rules s) (shown rules t) (inside m)
+      turned : (t : List ℕ) → SameTurns papers 64 nought (shown rules reduced) (shown rules t) → lastIndex t ≡ lastIndex reduced
+          → Turned papers 64 nought (shown rules s) (shown rules t) (inside m)
       unfolding paid
       turned t turns index = record {
         sender-in = omega (arith, v .range .sender);
@@ -293,7 +297,8 @@ module _ (rules : Rules) (lays : Lays rules) (Certain : List ℕ → Type 0) (gi
       }
 
       -- or it is debited alone, also where the state then shows the same
-      takes-off : (t : List ℕ) → Moved rules reduced rules t → ((y : ℕ) → recordOf rules reduced y .balance + outOf papers y (inside m) ≡ recordOf rules s y .balance)
+      takes-off : (t : List ℕ) → Moved rules reduced rules t
+          → ((y : ℕ) → recordOf rules reduced y .balance + outOf papers y (inside m) ≡ recordOf rules s y .balance)
           → Certain (inside m) → Here rules (Effect.debited (inside m)) → Comes s t (Event.confirmed (inside m) ∷ h)
       takes-off t moved money certain here = record {
         effect = Effect.debited (inside m);
