@@ -23,6 +23,7 @@ use Rattle.wire.specs.Readers.{judgedBy}
 use Rattle.records.specs.Balances.{nought}
 use Rattle.records.specs.States as machine
 use Rattle.records.specs.Answers.{confirmed}
+use Rattle.records.specs.Calls.{hasPlace}
 use Rattle.invariants.specs.Meaning.{HasRoom}
 use Rattle.invariants.specs.Outcomes.{judged}
 use Rattle.invariants.specs.Theorems.{certificate-counts, account-balance}
@@ -62,13 +63,14 @@ module _ (f : ℕ) (dishonest : ℕ → Bool) (few : AtMostF f dishonest) (w : M
 
   -- an honest machine's bytes follow what it did, which is lawful, and have room
   own : (k : ℕ) → Honest f dishonest k → Follower (w .layouts k) (w .refusals k) (counting f) (w .given) (w .machines k) (w .did k)
-  own k honest = h .machines k (member f dishonest k (honest .0)) (honest .1)
+  own k honest = holding.own (counting f) dishonest w h k (member f dishonest k (honest .0), honest .1)
 
   lawful : (k : ℕ) → Honest f dishonest k → Lawful papers (model.Certain papers (counting f) dishonest (world w)) (w .given) (w .did k)
   lawful k honest = holding.lawful (counting f) dishonest w h k (member f dishonest k (honest .0), honest .1)
 
   room : (k : ℕ) → Honest f dishonest k → HasRoom (rules w k) (w .machines k)
-  room k honest = follower-room (w .layouts k) (w .refusals k) (counting f) _ (w .given) (w .machines k) (w .did k) (lawful k honest) (own k honest) (h .books .balanced .few)
+  room k honest =
+      follower-room (w .layouts k) (w .refusals k) (counting f) _ (w .given) (w .machines k) (w .did k) (lawful k honest) (own k honest) (h .books .balanced .few)
 
   -- a good certificate is judged good by every header that names this committee
   good-by : (c : wire.Committee) → Seats (counting f) c → (m verdicts : List ℕ) → Good f dishonest m verdicts → judgedBy c m verdicts .number ≡ 0
@@ -90,8 +92,10 @@ module _ (f : ℕ) (dishonest : ℕ → Bool) (few : AtMostF f dishonest) (w : M
         only-certain = λ b i. certain-counts f dishonest w b (l .1 .only-certain b i);
         all-certain = λ b c. l .1 .all-certain b (counts-certain f dishonest w b c);
         good-certain = λ m verdicts good fair.
-            certain-counts f dishonest w (inside m) (holding.certified-by (counting f) dishonest w m verdicts (fair-votes f dishonest w m verdicts fair) (committee f) (counting-seats f) good);
-        one-a-number = λ b c u v. unique papers (counting f) dishonest minority (world w) (h .sound) b c (counts-certain f dishonest w b u) (counts-certain f dishonest w c v);
+            certain-counts f dishonest w (inside m)
+            (holding.certified-by (counting f) dishonest w m verdicts (fair-votes f dishonest w m verdicts fair) (committee f) (counting-seats f) good);
+        one-a-number = λ b c u v.
+            unique papers (counting f) dishonest minority (world w) (h .sound) b c (counts-certain f dishonest w b u) (counts-certain f dishonest w c v);
         covered = account-safe papers (counting f) dishonest minority (world w) (h .sound) (l .0) (l .1);
         solvent = solvent papers (counting f) dishonest minority (world w) (h .sound) (l .0) (l .1);
         payable = paid-whole;
@@ -104,7 +108,8 @@ module _ (f : ℕ) (dishonest : ℕ → Bool) (few : AtMostF f dishonest) (w : M
 
   -- no call answers 16
   never-16 : (call : Call) → OnHonest f dishonest call → answer w call .number ≡ 16 → ⊥
-  never-16 (Call.order k m verdicts) honest = order-not-16 (rules w k) (w .machines k) m verdicts (own k honest .formed) (machine-layouts.further-not-16 (w .layouts k) (w .refusals k))
+  never-16 (Call.order k m verdicts) honest =
+      order-not-16 (rules w k) (w .machines k) m verdicts (own k honest .formed) (machine-layouts.further-not-16 (w .layouts k) (w .refusals k))
   never-16 (Call.certificate k m verdicts) honest = certificate-not-16 (rules w k) (w .machines k) m verdicts (room k honest)
   never-16 (Call.fundingOrder k m verdicts) honest = funding-not-16 (rules w k) (w .machines k) m verdicts (room k honest)
   never-16 (Call.fund out account amount) honest = fund-never-16 out account amount (h .books .balanced)
@@ -116,8 +121,9 @@ module _ (f : ℕ) (dishonest : ℕ → Bool) (few : AtMostF f dishonest) (w : M
       → answer w (Call.certificate k m verdicts) ≡ confirmed (length (signersIn m))
   counted k honest m verdicts good turn =
       let all = machine-layouts.keeps-all (w .layouts k) (w .refusals k) in
+      let place : hasPlace (rules w k) (w .machines k) (payment (inside m)) ≡ true = rw (all (payment (inside m) .recipient)) refl in
       rw (machine-layouts.counts-votes (w .layouts k) (w .refusals k) (w .machines k) (signersIn m)) at
-      (certificate-counts (rules w k) (w .machines k) m verdicts (room k honest) (good-by _ (own k honest .seats) m verdicts good) (all _) (rw (all (payment (inside m) .recipient)) refl) turn)
+      (certificate-counts (rules w k) (w .machines k) m verdicts (room k honest) (good-by _ (own k honest .seats) m verdicts good) (all _) place turn)
 
   -- what is paid goes to the ledger whole
   worth : (b : List ℕ) → In b (w .paid) → toLedger b ≡ amountIn b

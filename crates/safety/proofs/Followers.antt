@@ -25,12 +25,12 @@ use Rattle.invariants.specs.Theorems.{order-keeps, certificate-keeps, funding-k
 use Rattle.invariants.specs.Moving.{moved-formed}
 use Rattle.invariants.specs.Layouts.{lays, keeps-all}
 use Rattle.safety.specs.Runs.{noted, isConfirmed}
-use Rattle.safety.proofs.Papers.{papers, shown, Numbered}
+use Rattle.safety.proofs.Papers.{papers, History, shown, Numbered}
 use Rattle.safety.proofs.Certificates.{Seats}
 use Rattle.safety.proofs.Showing.{Here, Does, moved-shows, order-does, whole-does, funding-does, order-seats, certificate-seats, funding-seats}
 
 -- the bytes of a machine follow what it did, are well formed and name this committee; what it did is of amounts in range
-pub record Follower (l : Layout) (r : Refusals) (C : quorums.Committee) (given : List (List ℕ)) (s : List ℕ) (did : List (Event (List ℕ) (List ℕ))) : Type 0 where
+pub record Follower (l : Layout) (r : Refusals) (C : quorums.Committee) (given : List (List ℕ)) (s : List ℕ) (did : History) : Type 0 where
   pub follows : Follows papers 64 nought given (shown (rulesOf l r) s) did
   pub index : lastIndex s ≡ length (fundings did)
   pub formed : WellFormed (rulesOf l r) s
@@ -38,20 +38,22 @@ pub record Follower (l : Layout) (r : Refusals) (C : quorums.Committee) (given :
   pub moderate : Moderate papers 64 nought did
 
 -- so do those that it is moved to, in whatever layout and under whatever refusals
-pub moved-follower : (l : Layout) (r : Refusals) (C : quorums.Committee) (given : List (List ℕ)) (s : List ℕ) (did : List (Event (List ℕ) (List ℕ))) (l′ : Layout) (r′ : Refusals) (t : List ℕ)
-    → Moved (rulesOf l r) s (rulesOf l′ r′) t → Seats C (rulesOf l′ r′ .committee t) → Follower l r C given s did → Follower l′ r′ C given t did
-moved-follower l r C given s did l′ r′ t m seats f = record {
-  follows = follows-same papers 64 nought given (shown (rulesOf l r) s) (shown (rulesOf l′ r′) t) did (moved-shows (rulesOf l r) s (rulesOf l′ r′) t m) (f .follows);
-  index = m .index ∙ f .index;
-  formed = moved-formed (rulesOf l r) s (rulesOf l′ r′) t m (f .formed);
-  seats = seats;
-  moderate = f .moderate;
-}
+pub moved-follower : (l : Layout) (r : Refusals) (C : quorums.Committee) (given : List (List ℕ)) (s : List ℕ) (did : History)
+    → (l′ : Layout) (r′ : Refusals) (t : List ℕ) → Moved (rulesOf l r) s (rulesOf l′ r′) t → Seats C (rulesOf l′ r′ .committee t)
+    → Follower l r C given s did → Follower l′ r′ C given t did
+moved-follower l r C given s did l′ r′ t m seats f =
+    let same = moved-shows (rulesOf l r) s (rulesOf l′ r′) t m in
+    record {
+      follows = follows-same papers 64 nought given (shown (rulesOf l r) s) (shown (rulesOf l′ r′) t) did same (f .follows);
+      index = m .index ∙ f .index;
+      formed = moved-formed (rulesOf l r) s (rulesOf l′ r′) t m (f .formed);
+      seats = seats;
+      moderate = f .moderate;
+    }
 
--- more orders of the ledger do not disturb it
-pub given-follower : (l : Layout) (r : Refusals) (C : quorums.Committee) (given : List (List ℕ)) (o s : List ℕ) (did : List (Event (List ℕ) (List ℕ)))
-    → Follower l r C given s did
-    → Follower l r C (o ∷ given) s did
+-- one more order of the ledger does not disturb it
+pub given-follower : (l : Layout) (r : Refusals) (C : quorums.Committee) (given : List (List ℕ)) (o s : List ℕ) (did : History)
+    → Follower l r C given s did → Follower l r C (o ∷ given) s did
 given-follower l r C given o s did f = record {
   follows = follows-given papers 64 nought given (o ∷ []) (o ∷ given) (shown (rulesOf l r) s) did refl (f .follows);
   index = f .index;
@@ -61,7 +63,7 @@ given-follower l r C given o s did f = record {
 }
 
 -- an index counts the funding orders taken, whatever a call did
-indexed : (rules : Rules) (given : List (List ℕ)) (s t : List ℕ) (did : List (Event (List ℕ) (List ℕ))) (e : Effect (List ℕ) (List ℕ)) → Here rules e
+indexed : (rules : Rules) (given : List (List ℕ)) (s t : List ℕ) (did : History) (e : Effect (List ℕ) (List ℕ)) → Here rules e
     → Changed papers 64 nought given (shown rules s) (shown rules t) e → lastIndex s ≡ length (fundings did) → lastIndex t ≡ length (fundings (events e ++ did))
 indexed rules given s t did Effect.nothing here c h = c .indexes 0 (lit< tt) ∙ h
 indexed rules given s t did (Effect.newVote b) here c h = c .indexes 0 (lit< tt) ∙ h
@@ -73,41 +75,43 @@ indexed rules given s t did (Effect.took o) here c h = elim (c .indexes _ (c .in
 indexed rules given s t did (Effect.noted o) here c h = absurd here
 
 -- calls on a machine, where these bodies are certain, the ledger gave these orders and what the machine did is lawful
-module _ (l : Layout) (r : Refusals) (C : quorums.Committee) (Certain : List ℕ → Type 0) (given : List (List ℕ)) (s : List ℕ) (did : List (Event (List ℕ) (List ℕ)))
+module _ (l : Layout) (r : Refusals) (C : quorums.Committee) (Certain : List ℕ → Type 0) (given : List (List ℕ)) (s : List ℕ) (did : History)
     (lawful : Lawful papers Certain given did) (own : Follower l r C given s did) where
+  abbrev rules : Rules
+  rules = rulesOf l r
+
   -- what a call comes to
-  abbrev pub Follow : List ℕ → List (Event (List ℕ) (List ℕ)) → Type 0
+  abbrev Follow : List ℕ → History → Type 0
   Follow t longer = Lawful papers Certain given longer × Follower l r C given t longer
 
-  does : (t : List ℕ) (longer : List (Event (List ℕ) (List ℕ))) → Does (rulesOf l r) Certain given s t did longer → WellFormed (rulesOf l r) t
-      → rulesOf l r .committee t ≡ rulesOf l r .committee s → Follow t longer
+  does : (t : List ℕ) (longer : History) → Does rules Certain given s t did longer → WellFormed rules t → rules .committee t ≡ rules .committee s → Follow t longer
   does t longer d formed same =
-      let both = obeys papers 64 nought Certain given did (shown (rulesOf l r) s) (shown (rulesOf l r) t) (d .effect) lawful (own .follows) (d .changed) (d .grounded) in
+      let both = obeys papers 64 nought Certain given did (shown rules s) (shown rules t) (d .effect) lawful (own .follows) (d .changed) (d .grounded) in
       rw (d .history) (
         both .0,
         record {
           follows = both .1;
-          index = indexed (rulesOf l r) given s t did (d .effect) (d .here) (d .changed) (own .index);
+          index = indexed rules given s t did (d .effect) (d .here) (d .changed) (own .index);
           formed = formed;
           seats = rw same (own .seats);
-          moderate = moderate-still papers 64 nought given (shown (rulesOf l r) s) (shown (rulesOf l r) t) did (d .effect) (d .changed) (d .modest) (own .moderate);
+          moderate = moderate-still papers 64 nought given (shown rules s) (shown rules t) did (d .effect) (d .changed) (d .modest) (own .moderate);
         },
       )
 
-  pub order-follows : (m verdicts : List ℕ)
-      → (let o = on-machine.order (rulesOf l r) s m verdicts in Follow (o .state) (noted (o .answer) (Event.voted (inside m)) did))
+  pub order-follows : (m verdicts : List ℕ) → (let o = on-machine.order rules s m verdicts in Follow (o .state) (noted (o .answer) (Event.voted (inside m)) did))
   order-follows m verdicts =
-      does _ _ (order-does (rulesOf l r) (lays l r) Certain given did m verdicts s (own .formed)) (order-keeps (rulesOf l r) (lays l r) s m verdicts (own .formed))
-      (order-seats (rulesOf l r) (lays l r) s m verdicts)
+      does _ _ (order-does rules (lays l r) Certain given did m verdicts s (own .formed))
+      (order-keeps rules (lays l r) s m verdicts (own .formed)) (order-seats rules (lays l r) s m verdicts)
 
-  pub certificate-follows : (m verdicts : List ℕ) → (judgedBy (rulesOf l r .committee s) m verdicts .number ≡ 0 → Certain (inside m))
-      → (let o = on-machine.certificate (rulesOf l r) s m verdicts in Follow (o .state) (cond (isConfirmed (o .answer)) (Event.credited (inside m) ∷ Event.confirmed (inside m) ∷ did) did))
+  pub certificate-follows : (m verdicts : List ℕ) → (judgedBy (rules .committee s) m verdicts .number ≡ 0 → Certain (inside m))
+      → (let o = on-machine.certificate rules s m verdicts in
+      Follow (o .state) (cond (isConfirmed (o .answer)) (Event.credited (inside m) ∷ Event.confirmed (inside m) ∷ did) did))
   certificate-follows m verdicts certain =
-      does _ _ (whole-does (rulesOf l r) (lays l r) Certain given did m verdicts s (own .formed) (keeps-all l r) certain)
-      (certificate-keeps (rulesOf l r) (lays l r) s m verdicts (own .formed)) (certificate-seats (rulesOf l r) (lays l r) s m verdicts)
+      does _ _ (whole-does rules (lays l r) Certain given did m verdicts s (own .formed) (keeps-all l r) certain)
+      (certificate-keeps rules (lays l r) s m verdicts (own .formed)) (certificate-seats rules (lays l r) s m verdicts)
 
   pub funding-follows : (m verdicts : List ℕ) → Numbered given → (laid m fundingFields ≡ true → length verdicts ≡ 1 → good verdicts ≡ true → In m given)
-      → (let o = on-machine.fundingOrder (rulesOf l r) s m verdicts in Follow (o .state) (noted (o .answer) (Event.funded m) did))
+      → (let o = on-machine.fundingOrder rules s m verdicts in Follow (o .state) (noted (o .answer) (Event.funded m) did))
   funding-follows m verdicts numbered gave =
-      does _ _ (funding-does (rulesOf l r) (lays l r) Certain given did m verdicts s (own .formed) (keeps-all l r) numbered gave)
-      (funding-keeps (rulesOf l r) (lays l r) s m verdicts (own .formed)) (funding-seats (rulesOf l r) (lays l r) s m verdicts)
+      does _ _ (funding-does rules (lays l r) Certain given did m verdicts s (own .formed) (keeps-all l r) numbered gave)
+      (funding-keeps rules (lays l r) s m verdicts (own .formed)) (funding-seats rules (lays l r) s m verdicts)

@@ -21,13 +21,10 @@ use Rattle.records.specs.Calls as on-machine
 use Rattle.ledger.specs.Calls as on-ledger
 use Rattle.bookkeeping.specs.Layouts.{lays}
 use Rattle.safety.specs.Runs.{Call, Moment, rules, ledger-rules, isConfirmed, acts, after}
-use Rattle.safety.proofs.Papers.{papers, world}
+use Rattle.safety.proofs.Papers.{papers, History, world}
 use Rattle.safety.proofs.Certificates.{Seats, Vouched, certified}
 use Rattle.safety.proofs.Books.{Books, fund-books, redeem-books, redeem-found, fund-seats, redeem-seats}
 use Rattle.safety.proofs.Followers.{Follower, given-follower, order-follows, certificate-follows, funding-follows}
-
-abbrev History : Type 0
-History = List (Event (List ℕ) (List ℕ))
 
 -- votes stay where one more was given, a payment confirmed or a funding order taken, or nothing
 voted-more : (t : Bool) (b : List ℕ) (h : History) (c : List ℕ) → In c (votes h) → In c (votes (cond t (Event.voted b ∷ h) h))
@@ -109,7 +106,10 @@ module _ (C : quorums.Committee) (dishonest : ℕ → Bool) where
         unpaid = λ i. false≢true (sym (r .2) ∙ h .books .log-has (inside m) i);
       }
 
-  -- what an honest machine did is lawful
+  -- an honest machine's bytes follow what it did, and that is lawful
+  pub own : (w : Moment) → Holds w → (k : ℕ) → Honest k → Follower (w .layouts k) (w .refusals k) C (w .given) (w .machines k) (w .did k)
+  own w h k honest = h .machines k (honest .0) (honest .1)
+
   pub lawful : (w : Moment) → Holds w → (k : ℕ) → Honest k → Lawful papers (model.Certain papers C dishonest (world w)) (w .given) (w .did k)
   lawful w h k honest = h .sound .lawful k (honest .0) (honest .1)
 
@@ -118,25 +118,26 @@ module _ (C : quorums.Committee) (dishonest : ℕ → Bool) where
   holds-call w h (Call.order k m verdicts) honest =
       let o = on-machine.order (rules w k) (w .machines k) m verdicts in
       holds-acts w h k honest _ _ (voted-more (eqb (o .answer .number) 0) (inside m) (w .did k))
-      (order-follows (w .layouts k) (w .refusals k) C _ (w .given) (w .machines k) (w .did k) (lawful w h k honest) (h .machines k (honest .0) (honest .1)) m verdicts)
+      (order-follows (w .layouts k) (w .refusals k) C _ (w .given) (w .machines k) (w .did k) (lawful w h k honest) (own w h k honest) m verdicts)
   holds-call w h (Call.certificate k m verdicts) admitted =
       let honest = admitted .0 in
-      let own = h .machines k (honest .0) (honest .1) in
       let o = on-machine.certificate (rules w k) (w .machines k) m verdicts in
       holds-acts w h k honest _ _ (confirmed-more (isConfirmed (o .answer)) (inside m) (w .did k))
-      (certificate-follows (w .layouts k) (w .refusals k) C _ (w .given) (w .machines k) (w .did k) (lawful w h k honest) own m verdicts
-      (certified-by w m verdicts (admitted .1) _ (own .seats)))
+      (certificate-follows (w .layouts k) (w .refusals k) C _ (w .given) (w .machines k) (w .did k) (lawful w h k honest) (own w h k honest) m verdicts
+      (certified-by w m verdicts (admitted .1) _ (own w h k honest .seats)))
   holds-call w h (Call.fundingOrder k m verdicts) admitted =
       let honest = admitted .0 in
       let o = on-machine.fundingOrder (rules w k) (w .machines k) m verdicts in
       holds-acts w h k honest _ _ (funded-more (eqb (o .answer .number) 0) m (w .did k))
-      (funding-follows (w .layouts k) (w .refusals k) C _ (w .given) (w .machines k) (w .did k) (lawful w h k honest) (h .machines k (honest .0) (honest .1)) m verdicts (h .books .numbered) (admitted .1))
+      (funding-follows (w .layouts k) (w .refusals k) C _ (w .given) (w .machines k) (w .did k) (lawful w h k honest) (own w h k honest) m verdicts
+      (h .books .numbered) (admitted .1))
   holds-call w h (Call.fund out account amount) admitted =
       let o = on-ledger.fund (ledger-rules w) (w .ledger) out account amount in
       let gave = eqb (o .answer .number) 0 in
+      let order = take 16 (o .out) in
       record {
-        sound = given-sound (world w) gave (take 16 (o .out)) (h .sound);
-        machines = λ k l honest. given-more (w .layouts k) (w .refusals k) (w .given) gave (take 16 (o .out)) (w .machines k) (w .did k) (h .machines k l honest);
+        sound = given-sound (world w) gave order (h .sound);
+        machines = λ k l honest. given-more (w .layouts k) (w .refusals k) (w .given) gave order (w .machines k) (w .did k) (h .machines k l honest);
         books = fund-books (ledger-rules w) (lays (w .ledger-layout)) (w .ledger) (w .given) (w .paid) (h .books) out account amount;
         seats = rw (fund-seats (ledger-rules w) (lays (w .ledger-layout)) (w .ledger) out account amount) (h .seats);
       }

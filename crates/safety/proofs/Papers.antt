@@ -10,7 +10,7 @@ use lib.ListN.{length, take}
 use lib.Dec.{eqb}
 use Rattle.model.specs.Lists.{In, isIn}
 use Rattle.model.specs.Quorums.{counting}
-use Rattle.model.specs.Histories.{Payments, votes}
+use Rattle.model.specs.Histories.{Payments, Event, votes}
 use Rattle.model.specs.Worlds as model
 use Rattle.model.specs.Views.{Shown, GaveAs}
 use Rattle.model.proofs.QuorumLaws.{count-quorum, quorum-count, count-either}
@@ -41,6 +41,10 @@ papers = record {
   value = λ o. funding o .amount;
   index = λ o. funding o .index .0;
 }
+
+-- what a machine did, newest first
+abbrev pub History : Type 0
+History = List (Event (List ℕ) (List ℕ))
 
 -- what was done up to a moment, as the model's world
 abbrev pub world : Moment → model.World (List ℕ) (List ℕ)

@@ -18,7 +18,7 @@ use Rattle.safety.specs.Demand3.{OnHonest, Fair, Run}
 use Rattle.safety.proofs.Papers.{papers}
 use Rattle.safety.proofs.Certificates.{Seats, counting-seats, one-good, fair-votes}
 use Rattle.safety.proofs.Showing.{fresh-follows}
-use Rattle.safety.proofs.Books.{fresh-books, moved-books}
+use Rattle.safety.proofs.Books.{Books, fresh-books, moved-books}
 use Rattle.safety.proofs.Followers.{Follower, moved-follower}
 use Rattle.safety.proofs.Holding as holding
 
@@ -45,8 +45,14 @@ plain-follower f k h l = record {
 fresh-follower : (l : machine.Layout) (f k : ℕ) → f ≤ 5 → machine.Has l f → k ≤ 3 * f
     → Follower l machine.Refusals.none (counting f) [] (machine.freshIn l f k) []
 fresh-follower l f k h has own =
-    moved-follower machine.Layout.plain machine.Refusals.none (counting f) [] (machine.freshState machine.base f k) [] l machine.Refusals.none (machine.freshIn l f k)
-    (machine-layouts.fresh-moved l machine.Refusals.none f k has own) (machine-seats l machine.Refusals.none f k has) (plain-follower f k h own)
+    let none = machine.Refusals.none in
+    moved-follower machine.Layout.plain none (counting f) [] (machine.freshState machine.base f k) [] l none (machine.freshIn l f k)
+    (machine-layouts.fresh-moved l none f k has own) (machine-seats l none f k has) (plain-follower f k h own)
+
+-- and the books of a fresh ledger in any layout are empty
+fresh-ledger : (l : ledger.Layout) (f : ℕ) → f ≤ 5 → ledger.Has l f → Books (ledger.rulesOf l) (ledger.freshIn l f) [] []
+fresh-ledger l f h has =
+    moved-books ledger.base (ledger.freshState ledger.base f) (ledger.rulesOf l) (ledger.freshIn l f) [] [] (ledger-layouts.fresh-moved l f has) (fresh-books f h)
 
 module _ (f : ℕ) (dishonest : ℕ → Bool) where
   -- what holds where 2f + 1 of 3f + 1 are a quorum
@@ -74,7 +80,7 @@ module _ (f : ℕ) (dishonest : ℕ → Bool) where
   run-holds h w (Run.starts-fresh layouts ledger-layout has ledger-has) = record {
     sound = sound-unbegun papers (counting f) dishonest;
     machines = λ k l honest. fresh-follower (layouts k) f k h (has k (members k l, honest)) (members k l);
-    books = moved-books ledger.base (ledger.freshState ledger.base f) (ledger.rulesOf ledger-layout) (ledger.freshIn ledger-layout f) [] [] (ledger-layouts.fresh-moved ledger-layout f ledger-has) (fresh-books f h);
+    books = fresh-ledger ledger-layout f h ledger-has;
     seats = ledger-seats ledger-layout f ledger-has;
   }
   run-holds h w (Run.changes-by-call {w = v} run call honest fair) =

@@ -38,7 +38,7 @@ use Rattle.invariants.specs.Keeping.{formed-of, withRecord-keeps}
 use Rattle.invariants.specs.Bounds.{follows-index, read-back, fresh-record, fresh-index}
 use Rattle.invariants.specs.Moving.{moved-record, moved-formed, tallied-moved, sending-moved}
 use Rattle.safety.specs.Runs.{noted, isConfirmed}
-use Rattle.safety.proofs.Papers.{papers, opened, shown, Numbered, given-as}
+use Rattle.safety.proofs.Papers.{papers, History, opened, shown, Numbered, given-as}
 
 -- a record written is the account's, and the others stay
 pub record-after : (rules : Rules) (s : List ℕ) (a : ℕ) (r : Record) → WellFormed rules s → a ≤ 63 → Formed a r
@@ -134,7 +134,7 @@ Here rules (Effect.took o) = rules .keeps (funding o .account .0) ≡ true
 Here rules (Effect.noted o) = ⊥
 
 -- what a call did to a state: an effect, by which the state shows something else and the history is longer
-pub record Does (rules : Rules) (Certain : List ℕ → Type 0) (given : List (List ℕ)) (s t : List ℕ) (h longer : List (Event (List ℕ) (List ℕ))) : Type 0 where
+pub record Does (rules : Rules) (Certain : List ℕ → Type 0) (given : List (List ℕ)) (s t : List ℕ) (h longer : History) : Type 0 where
   pub effect : Effect (List ℕ) (List ℕ)
   pub changed : Changed papers 64 nought given (shown rules s) (shown rules t) effect
   pub grounded : Grounded papers 64 nought Certain h effect
@@ -143,7 +143,7 @@ pub record Does (rules : Rules) (Certain : List ℕ → Type 0) (given : List (L
   pub history : longer ≡ events effect ++ h
 
 -- a body confirmed, and credited at once; or its credit is left for later
-abbrev pub confirming : Bool → List ℕ → List (Event (List ℕ) (List ℕ)) → List (Event (List ℕ) (List ℕ))
+abbrev pub confirming : Bool → List ℕ → History → History
 confirming near b h = cond near (Event.credited b ∷ Event.confirmed b ∷ h) (Event.confirmed b ∷ h)
 
 -- a payment is done with where it is confirmed: it goes to the ledger, or to an account that is kept there
@@ -163,9 +163,9 @@ or-none true u e f = e
 or-none false u e f = f
 
 -- where these bodies are certain and the ledger gave these orders
-module _ (rules : Rules) (lays : Lays rules) (Certain : List ℕ → Type 0) (given : List (List ℕ)) (h : List (Event (List ℕ) (List ℕ))) (m verdicts : List ℕ) where
+module _ (rules : Rules) (lays : Lays rules) (Certain : List ℕ → Type 0) (given : List (List ℕ)) (h : History) (m verdicts : List ℕ) where
   -- what a call does
-  abbrev Comes : List ℕ → List ℕ → List (Event (List ℕ) (List ℕ)) → Type 0
+  abbrev Comes : List ℕ → List ℕ → History → Type 0
   Comes s t longer = Does rules Certain given s t h longer
 
   -- the sender of the body
@@ -173,7 +173,7 @@ module _ (rules : Rules) (lays : Lays rules) (Certain : List ℕ → Type 0) (gi
   sender = payment (inside m) .sender .0
 
   -- what is done to a state that shows the same as another is done to that one
-  since : (r s t : List ℕ) (longer : List (Event (List ℕ) (List ℕ))) → Moved rules r rules s → Comes s t longer → Comes r t longer
+  since : (r s t : List ℕ) (longer : History) → Moved rules r rules s → Comes s t longer → Comes r t longer
   since r s t longer moved d = record {
     effect = d .effect;
     changed = changed-since papers 64 nought given (shown rules r) (shown rules s) (shown rules t) (d .effect) (moved-shows rules r rules s moved) (d .changed);
