@@ -177,7 +177,8 @@ certificate-limited rules l s m verdicts h =
     let f = credited-formed (p .recipient) to (p .amount) (formed-of rules s (p .recipient) (h .formed) k) (c .room) in
     let follows = follows-paid rules l s h p v (p .amount) (v .range .amount) in
     let stays = record-stays rules _ (p .recipient) (p .sender .0) _ (omega (arith, f .size)) (c .other) in
-    limited-more rules l s h p v _ (follows-record rules l 1 (lastIndex s) s _ (p .recipient) _ follows k f (changed-credited to (p .amount) (v .range .amount)))
+    limited-more rules l s h p v _
+    (follows-record rules l 1 (lastIndex s) s _ (p .recipient) _ follows k f (changed-credited to (p .amount) (v .range .amount)))
     (ap (λ (r : Record). r .next .0) stays ∙ raised rules l s h p v (p .amount)))
     (λ v g. let f = debit v (g .noted) in moved-limited rules _ rules _ (sending-moved rules l s p _ (g .place) (f .formed .state)) f)
 

@@ -234,7 +234,8 @@ module _ (K : Payments) (accounts lift : ℕ) where
       },
     )
       where
-        own : Rises K accounts lift given s t o (account o) ⊎ ((t .last (account o) ≡ s .last (account o)) × (account o ≡ account o → ⊥)) → index o ≤ t .last (account o)
+        own : Rises K accounts lift given s t o (account o) ⊎ ((t .last (account o) ≡ s .last (account o)) × (account o ≡ account o → ⊥))
+            → index o ≤ t .last (account o)
         own (inl r) = omega (arith, v .turn, r .0)
         own (inr r) = absurd (r .1 refl)
 

@@ -58,12 +58,13 @@ judged-alike C c d a b m verdicts =
     let last : c .last ≡ d .last = omega (arith, a .last, b .last) in
     ap (λ x. need (laid m certificateFields) (refuses 1) x) (ap (λ x. need (laid (inside m) bodyFields) (refuses 1) x)
     (ap (λ x. need (isPayment (payment (inside m))) (refuses 2) x) (ap (λ x. need (eqb (length verdicts) (wire.votes m)) (refuses 3) x)
-    (votes-alike (wire.known (c .last) ks) (wire.known (d .last) ks) (wire.rising ks) (wire.good verdicts) (c .quorum ks) (d .quorum ks) _ (ap (λ (n : ℕ). wire.known n ks) last)
-    (λ known. a .weighs ks known ∙ sym (b .weighs ks (rw last at known)))))))
+    (votes-alike (wire.known (c .last) ks) (wire.known (d .last) ks) (wire.rising ks) (wire.good verdicts) (c .quorum ks) (d .quorum ks) _
+    (ap (λ (n : ℕ). wire.known n ks) last) (λ known. a .weighs ks known ∙ sym (b .weighs ks (rw last at known)))))))
   where
     -- of the tests on votes the first comes out alike, and where it holds so does the last
     votes-alike : (s t u v p q : Bool) (rest : Said) → s ≡ t → (s ≡ true → p ≡ q)
-        → need s (refuses 5) (need u (refuses 6) (need v (refuses 4) (need p (refuses 7) rest))) ≡ need t (refuses 5) (need u (refuses 6) (need v (refuses 4) (need q (refuses 7) rest)))
+        → need s (refuses 5) (need u (refuses 6) (need v (refuses 4) (need p (refuses 7) rest)))
+        ≡ need t (refuses 5) (need u (refuses 6) (need v (refuses 4) (need q (refuses 7) rest)))
     votes-alike true t u v p q rest e h = rw (← e, h refl)
     votes-alike false t u v p q rest e h = rw (← e)
 
@@ -101,7 +102,8 @@ pub certified : (C : quorums.Committee) (c : wire.Committee) → Seats C c → (
 certified C c seats dishonest w m verdicts good voted =
     let j = judged c m verdicts good in
     good-certificate papers C dishonest (world w) (inside m) (wire.signersIn m) (signers-once c m verdicts j)
-    (λ k i. (omega (arith, known-most (wire.signersIn m) (c .last) k (j .members) i, seats .last), voted j k i)) (ltb-true _ _ (sym (seats .weighs (wire.signersIn m) (j .members)) ∙ j .enough))
+    (λ k i. (omega (arith, known-most (wire.signersIn m) (c .last) k (j .members) i, seats .last), voted j k i))
+    (ltb-true _ _ (sym (seats .weighs (wire.signersIn m) (j .members)) ∙ j .enough))
 
 -- fair verdicts vouch, whichever header names the committee
 pub fair-votes : (f : ℕ) (dishonest : ℕ → Bool) (w : Moment) (m verdicts : List ℕ) → FairVotes f dishonest w m verdicts → (c : wire.Committee)
@@ -111,4 +113,5 @@ unfolding quorums.counting
 fair-votes f dishonest w m verdicts fair c seats j k i h =
     let p = place-of (wire.signersIn m) k i in
     let one = good-at verdicts (p .0) (j .verdicts-good) (omega (arith, j .count)) in
-    rw (p .2) at (fair (j .laid-down) (j .count) (p .0) (omega (arith, j .count)) one) (omega (arith, known-most (wire.signersIn m) (c .last) k (j .members) i, seats .last), h)
+    let member : k ≤ 3 * f = omega (arith, known-most (wire.signersIn m) (c .last) k (j .members) i, seats .last) in
+    rw (p .2) at (fair (j .laid-down) (j .count) (p .0) (omega (arith, j .count)) one) (member, h)

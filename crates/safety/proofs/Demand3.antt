@@ -70,7 +70,8 @@ module _ (f : ℕ) (dishonest : ℕ → Bool) (few : AtMostF f dishonest) (w : M
 
   room : (k : ℕ) → Honest f dishonest k → HasRoom (rules w k) (w .machines k)
   room k honest =
-      follower-room (w .layouts k) (w .refusals k) (counting f) _ (w .given) (w .machines k) (w .did k) (lawful k honest) (own k honest) (h .books .balanced .few)
+      follower-room (w .layouts k) (w .refusals k) (counting f) _ (w .given) (w .machines k) (w .did k) (lawful k honest) (own k honest)
+      (h .books .balanced .few)
 
   -- a good certificate is judged good by every header that names this committee
   good-by : (c : wire.Committee) → Seats (counting f) c → (m verdicts : List ℕ) → Good f dishonest m verdicts → judgedBy c m verdicts .number ≡ 0

@@ -84,7 +84,8 @@ module _ (l : Layout) (r : Refusals) (C : quorums.Committee) (Certain : List ℕ
   abbrev Follow : List ℕ → History → Type 0
   Follow t longer = Lawful papers Certain given longer × Follower l r C given t longer
 
-  does : (t : List ℕ) (longer : History) → Does rules Certain given s t did longer → WellFormed rules t → rules .committee t ≡ rules .committee s → Follow t longer
+  does : (t : List ℕ) (longer : History) → Does rules Certain given s t did longer → WellFormed rules t → rules .committee t ≡ rules .committee s
+      → Follow t longer
   does t longer d formed same =
       let both = obeys papers 64 nought Certain given did (shown rules s) (shown rules t) (d .effect) lawful (own .follows) (d .changed) (d .grounded) in
       rw (d .history) (
@@ -98,7 +99,8 @@ module _ (l : Layout) (r : Refusals) (C : quorums.Committee) (Certain : List ℕ
         },
       )
 
-  pub order-follows : (m verdicts : List ℕ) → (let o = on-machine.order rules s m verdicts in Follow (o .state) (noted (o .answer) (Event.voted (inside m)) did))
+  pub order-follows : (m verdicts : List ℕ)
+      → (let o = on-machine.order rules s m verdicts in Follow (o .state) (noted (o .answer) (Event.voted (inside m)) did))
   order-follows m verdicts =
       does _ _ (order-does rules (lays l r) Certain given did m verdicts s (own .formed))
       (order-keeps rules (lays l r) s m verdicts (own .formed)) (order-seats rules (lays l r) s m verdicts)

@@ -52,7 +52,8 @@ fresh-follower l f k h has own =
 -- and the books of a fresh ledger in any layout are empty
 fresh-ledger : (l : ledger.Layout) (f : ℕ) → f ≤ 5 → ledger.Has l f → Books (ledger.rulesOf l) (ledger.freshIn l f) [] []
 fresh-ledger l f h has =
-    moved-books ledger.base (ledger.freshState ledger.base f) (ledger.rulesOf l) (ledger.freshIn l f) [] [] (ledger-layouts.fresh-moved l f has) (fresh-books f h)
+    moved-books ledger.base (ledger.freshState ledger.base f) (ledger.rulesOf l) (ledger.freshIn l f) [] []
+    (ledger-layouts.fresh-moved l f has) (fresh-books f h)
 
 module _ (f : ℕ) (dishonest : ℕ → Bool) where
   -- what holds where 2f + 1 of 3f + 1 are a quorum

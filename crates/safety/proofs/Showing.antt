@@ -94,10 +94,10 @@ moved-shows rules s rules′ t m =
       indexes = λ y k. m .index;
     }
 
--- a mark is 0 or 1
-bit-le : (t : Bool) → bit t ≤ 1
-bit-le true = omega arith
-bit-le false = omega arith
+-- a mark that stays
+mark-stays : (t : Bool) → bit t ≡ min (bit t + 0) 1
+mark-stays true = refl
+mark-stays false = refl
 
 -- one state shows n more in an account than another and has it in use, and shows the same otherwise
 record Gains (rules : Rules) (s t : List ℕ) (a n : ℕ) : Type 0 where
@@ -118,7 +118,7 @@ gains rules l s a n w h room =
         nexts = λ y k. after (λ x r t. r .next .0 ≡ recordOf rules s x .next .0) refl (λ x. refl) y;
       };
       balances = after (λ x r t. r .balance ≡ recordOf rules s x .balance + only t n) refl (λ x. omega arith);
-      marks = after (λ x r t. bit (r .used) ≡ min (bit (recordOf rules s x .used) + only t 1) 1) (omega arith) (λ x. omega (arith, bit-le (recordOf rules s x .used)));
+      marks = after (λ x r t. bit (r .used) ≡ min (bit (recordOf rules s x .used) + only t 1) 1) (omega arith) (λ x. mark-stays (recordOf rules s x .used));
       index = index-stays rules l s a _;
     }
 
@@ -267,7 +267,7 @@ module _ (rules : Rules) (lays : Lays rules) (Certain : List ℕ → Type 0) (gi
 
       marked : (y : ℕ) → bit (recordOf rules reduced y .used) ≡ min (bit (recordOf rules s y .used) + only (eqb sender y) 1) 1
       unfolding paid
-      marked = paying (λ y r t. bit (r .used) ≡ min (bit (recordOf rules s y .used) + only t 1) 1) (omega arith) (λ y. omega (arith, bit-le (recordOf rules s y .used)))
+      marked = paying (λ y r t. bit (r .used) ≡ min (bit (recordOf rules s y .used) + only t 1) 1) (omega arith) (λ y. mark-stays (recordOf rules s y .used))
 
       -- where the turns stay from then on, its sender's turn is over
       turned : (t : List ℕ) → SameTurns papers 64 nought (shown rules reduced) (shown rules t) → lastIndex t ≡ lastIndex reduced
@@ -302,8 +302,11 @@ module _ (rules : Rules) (lays : Lays rules) (Certain : List ℕ → Type 0) (gi
           → Certain (inside m) → Here rules (Effect.debited (inside m)) → Comes s t (Event.confirmed (inside m) ∷ h)
       takes-off t moved money certain here = record {
         effect = Effect.debited (inside m);
-        changed = debited-until papers 64 nought (shown rules s) (shown rules reduced) (shown rules t) (inside m)
-            (record { turned = turned reduced (still rules reduced .turns) refl; balances = λ y k. money y; marks = λ y k. marked y }) (moved-shows rules reduced rules t moved);
+        changed = debited-until papers 64 nought (shown rules s) (shown rules reduced) (shown rules t) (inside m) (record {
+          turned = turned reduced (still rules reduced .turns) refl;
+          balances = λ y k. money y;
+          marks = λ y k. marked y;
+        }) (moved-shows rules reduced rules t moved);
         grounded = certain;
         modest = v .range .amount;
         here = here;
@@ -311,13 +314,15 @@ module _ (rules : Rules) (lays : Lays rules) (Certain : List ℕ → Type 0) (gi
       }
 
     -- a funding order of the next index
-    takes : (let o = funding m in let a = o .account .0 in rules .keeps a ≡ true → Funded (lastIndex s) o (recordOf rules s a) → GaveAs given m (suc (lastIndex s))
+    takes : (let o = funding m in let a = o .account .0 in
+        rules .keeps a ≡ true → Funded (lastIndex s) o (recordOf rules s a) → GaveAs given m (suc (lastIndex s))
         → Comes s (withRecord rules (withIndex s (o .index .0)) a (credited (recordOf rules s a) (o .amount))) (Event.funded m ∷ h))
     takes kept v gave =
         let o = funding m in
         let a = o .account .0 in
         let i = o .index .0 in
-        let behind : (y : ℕ) → recordOf rules (withIndex s i) y ≡ recordOf rules s y = λ y. record-behind rules s 2 (bytes two i) y (omega (arith, length-bytes two i, lays .room)) in
+        let behind : (y : ℕ) → recordOf rules (withIndex s i) y ≡ recordOf rules s y = λ y.
+        record-behind rules s 2 (bytes two i) y (omega (arith, length-bytes two i, lays .room)) in
         let f = follows-index rules lays 0 s i formed (v .range .index) in
         let g = rw (behind a) at (gains rules lays (withIndex s i) a (o .amount) (f .formed) (v .range .account) (rw (behind a) (v .room))) in
         record {
@@ -340,8 +345,9 @@ module _ (rules : Rules) (lays : Lays rules) (Certain : List ℕ → Type 0) (gi
           history = refl;
         }
 
-  -- a state whose header took note of amounts: it was moved by that, and the sender's record stays
-  module _ (s : List ℕ) (formed : WellFormed rules s) (v : Settled (payment (inside m)) (recordOf rules s sender)) (noted-it : rules .mayTally s (payment (inside m) .amount) 0 ≡ true) where
+  -- a state whose header took note of the amount: it was moved by that, and the sender's record stays
+  module _ (s : List ℕ) (formed : WellFormed rules s) (v : Settled (payment (inside m)) (recordOf rules s sender))
+      (noted-it : rules .mayTally s (payment (inside m) .amount) 0 ≡ true) where
     abbrev noting : List ℕ
     noting = rules .tallied s (payment (inside m) .amount) 0
 
@@ -380,21 +386,25 @@ module _ (rules : Rules) (lays : Lays rules) (Certain : List ℕ → Type 0) (gi
   module _ (s : List ℕ) (formed : WellFormed rules s) where
     -- a good certificate's body is certain
     pub certificate-does : (judgedBy (rules .committee s) m verdicts .number ≡ 0 → Certain (inside m))
-        → (let o = on-machine.certificate rules s m verdicts in Comes s (o .state) (cond (isConfirmed (o .answer)) (confirming (isNear rules (inside m)) (inside m) h) h))
+        → (let o = on-machine.certificate rules s m verdicts in
+        Comes s (o .state) (cond (isConfirmed (o .answer)) (confirming (isNear rules (inside m)) (inside m) h) h))
     certificate-does certain =
         let p = payment (inside m) in
         let near = isNear rules (inside m) in
-        let at-once : near ≡ true → (t : List ℕ) → Comes s t (Event.credited (inside m) ∷ Event.confirmed (inside m) ∷ h) → Comes s t (confirming near (inside m) h) = λ e t d. rw e d in
+        let at-once : near ≡ true → (t : List ℕ) → Comes s t (confirming true (inside m) h) → Comes s t (confirming near (inside m) h) = λ e t d. rw e d in
         certificate-cases (λ o. Comes s (o .state) (cond (isConfirmed (o .answer)) (confirming near (inside m) h) h)) rules s
         (λ n k. rw (ne-eqb n 0 (λ e. omega arith)) (nothing s formed)) m verdicts (nothing s formed)
         (λ judged kept v itself. let e = both (eqb (p .kind) 0) (eqb (p .recipient) sender) itself in
-        let own : rules .keeps (p .recipient) ≡ true = rw (eqb-true (p .recipient) sender (e .1)) kept in
-        at-once (or-right (eqb (p .kind) 1) _ own) _ (settles s formed v 0 _ (still rules _ .turns) refl
-        (λ y. rw (e .0, eqb-true (p .recipient) sender (e .1)) (omega (arith, lowered s formed v 0 (omega arith) y, only-le (eqb sender y) 0)))
-        (λ y. rw (e .0, eqb-true (p .recipient) sender (e .1)) (omega (arith, marked s formed v 0 y, only-le (eqb sender y) 1))) (certain judged) (kept, λ _. own)))
-        (λ judged kept v kind enough noted-it. at-once (or-left (eqb (p .kind) 1) _ (eq-eqb (p .kind) 1 kind)) _ (to-ledger s formed v noted-it kind enough kept (certain judged)))
+        let own = eqb-true (p .recipient) sender (e .1) in
+        let there : rules .keeps (p .recipient) ≡ true = rw own kept in
+        at-once (or-right (eqb (p .kind) 1) _ there) _ (settles s formed v 0 _ (still rules _ .turns) refl
+        (λ y. rw (e .0, own) (omega (arith, lowered s formed v 0 (omega arith) y, only-le (eqb sender y) 0)))
+        (λ y. rw (e .0, own) (omega (arith, marked s formed v 0 y, only-le (eqb sender y) 1))) (certain judged) (kept, λ _. there)))
+        (λ judged kept v kind enough noted-it. at-once (or-left (eqb (p .kind) 1) _ (eq-eqb (p .kind) 1 kind)) _
+        (to-ledger s formed v noted-it kind enough kept (certain judged)))
         (λ judged kept v there c. let e = reduced-stays s formed v (p .amount) (p .recipient) (c .other) in
-        let g = rw e at (gains rules lays (reduced s formed v (p .amount)) (p .recipient) (p .amount) (reduced-formed s formed v (p .amount)) (v .range .recipient (c .kind)) (rw e (c .room))) in
+        let new = reduced-formed s formed v (p .amount) in
+        let g = rw e at (gains rules lays (reduced s formed v (p .amount)) (p .recipient) (p .amount) new (v .range .recipient (c .kind)) (rw e (c .room))) in
         at-once (or-right (eqb (p .kind) 1) _ there) _ (settles s formed v (p .amount) _ (g .turns) (g .index)
         (λ y. rw (c .kind) (omega (arith, g .balances y, lowered s formed v (p .amount) (c .enough) y)))
         (λ y. rw (c .kind) (omega (arith, g .marks y, marked s formed v (p .amount) y))) (certain judged) (kept, λ _. there)))
@@ -410,7 +420,8 @@ module _ (rules : Rules) (lays : Lays rules) (Certain : List ℕ → Type 0) (gi
         rw near at (certificate-does certain)
 
     -- a funding order of the next index that was given
-    funded-does : (let o = funding m in let a = o .account .0 in rules .keeps a ≡ true → Funded (lastIndex s) o (recordOf rules s a) → rules .mayTally s 0 (o .amount) ≡ true
+    funded-does : (let o = funding m in let a = o .account .0 in
+        rules .keeps a ≡ true → Funded (lastIndex s) o (recordOf rules s a) → rules .mayTally s 0 (o .amount) ≡ true
         → GaveAs given m (o .index .0) → Comes s (afterFunding rules s o) (Event.funded m ∷ h))
     funded-does kept v noted-it gave =
         let o = funding m in
@@ -419,7 +430,7 @@ module _ (rules : Rules) (lays : Lays rules) (Certain : List ℕ → Type 0) (gi
         let moved = tallied-moved rules lays s 0 (o .amount) (formed .state) noted-it in
         let e : recordOf rules t a ≡ recordOf rules s a = moved-record rules s rules t moved a (v .range .account) in
         let i : o .index .0 ≡ suc (lastIndex t) = omega (arith, v .index, moved .index) in
-        let w : Funded (lastIndex t) o (recordOf rules t a) = record { range = v .range; index = omega (arith, v .index, moved .index); room = rw e (v .room) } in
+        let w : Funded (lastIndex t) o (recordOf rules t a) = record { range = v .range; index = omega arith; room = rw e (v .room) } in
         rw e at (since s t _ _ moved (takes t (moved-formed rules s rules t moved formed) kept w (rw i at gave)))
 
     -- a funding order with a good verdict was given
@@ -442,8 +453,9 @@ module _ (rules : Rules) (lays : Lays rules) (s m verdicts : List ℕ) where
 
   pub certificate-seats : rules .committee (on-machine.certificate rules s m verdicts .state) ≡ rules .committee s
   certificate-seats =
-      certificate-comes (λ o. rules .committee (o .state) ≡ rules .committee s) rules s (λ _. refl) m verdicts (λ _ _. seats _ _ _) (λ _ _ _ _. seats _ _ _ ∙ lays .tally-seats s _ _)
-      (λ _ _. seats _ _ _ ∙ seats _ _ _) (λ _ _. lays .sent-seats _ _ _ ∙ seats _ _ _ ∙ lays .tally-seats s _ _)
+      certificate-comes (λ o. rules .committee (o .state) ≡ rules .committee s) rules s (λ _. refl) m verdicts
+      (λ _ _. seats _ _ _) (λ _ _ _ _. seats _ _ _ ∙ lays .tally-seats s _ _) (λ _ _. seats _ _ _ ∙ seats _ _ _)
+      (λ _ _. lays .sent-seats _ _ _ ∙ seats _ _ _ ∙ lays .tally-seats s _ _)
 
   pub funding-seats : rules .committee (on-machine.fundingOrder rules s m verdicts .state) ≡ rules .committee s
   funding-seats =
