@@ -45,7 +45,7 @@ can-tally Layout.plain r s out into a b = refl
 
 -- no further refusal is 16
 further-is-not-16 : (r : Refusals) (body : List ℕ) → further r body ≡ 16 → ⊥
-further-is-not-16 Refusals.none body e = omega arith
+further-is-not-16 Refusals.none body = λ e. omega arith
 
 pub further-not-16 : (l : Layout) (r : Refusals) (body : List ℕ) → rulesOf l r .further body ≡ 16 → ⊥
 further-not-16 Layout.plain r body = further-is-not-16 r body
