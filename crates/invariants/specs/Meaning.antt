@@ -57,11 +57,10 @@ pub record Lays (rules : Rules) : Type 0 where
   pub send-free : (s : List ℕ) (out into account : ℕ) (vs : List ℕ) → rules .maySend s ≡ true
       → rules .maySend (put (rules .tallied s out into) (place rules account) vs) ≡ true
 
--- the byte at i is neither noted of balances nor sent
-abbrev pub Unnoted : Rules → ℕ → Type 0
-Unnoted rules i =
-    ((s : List ℕ) (out into : ℕ) → getD (rules .tallied s out into) i 0 ≡ getD s i 0)
-    × ((s : List ℕ) (account amount : ℕ) → getD (rules .sent s account amount) i 0 ≡ getD s i 0)
+-- the byte at i changes neither where the header notes something of balances nor where a credit is sent
+pub record Unnoted (rules : Rules) (i : ℕ) : Type 0 where
+  pub noting : (s : List ℕ) (out into : ℕ) → getD (rules .tallied s out into) i 0 ≡ getD s i 0
+  pub sending : (s : List ℕ) (account amount : ℕ) → getD (rules .sent s account amount) i 0 ≡ getD s i 0
 
 -- every account is kept here
 abbrev pub KeepsAll : Rules → Type 0

@@ -1,5 +1,5 @@
 -- The laws of a machine's calls, for any messages, verdicts and states. Assumes nothing.
-use Prim.Native.Nat.{ℕ, _+_, _*_, _≤_, _<_}
+use Prim.Native.Nat.{ℕ, _*_, _≤_, _<_}
 use mathlib.Core.Path.{_≡_, refl, _∙_, ap}
 use mathlib.Core.Bool.{true}
 use mathlib.Core.List.{List}
@@ -55,11 +55,11 @@ pub certificate-leaves : (rules : Rules) (s m verdicts : List ℕ) (i : ℕ) →
 certificate-leaves rules s m verdicts i unnoted from to =
     let p = payment (inside m) in
     let payer : (t : List ℕ) (n : ℕ) → _ = λ t n. record-leaves rules t (p .sender .0) (paid (recordOf rules s (p .sender .0)) n) i (paid-size _ n) from in
-    let debit = payer (rules .tallied s (p .amount) 0) (p .amount) ∙ unnoted .0 s (p .amount) 0 in
+    let debit = payer (rules .tallied s (p .amount) 0) (p .amount) ∙ unnoted .noting s (p .amount) 0 in
     certificate-comes (λ o. getD (o .state) i 0 ≡ getD s i 0) rules s (λ _. refl) m verdicts (λ _ _. payer s 0) (λ _ _ _ _. debit)
     (λ _ c. record-leaves rules (afterPaid rules s p (p .amount)) (p .recipient) _ i (credited-size rules s (p .recipient) (p .amount)) (to (c .kind))
     ∙ payer s (p .amount))
-    (λ _ _. unnoted .1 _ (p .recipient) (p .amount) ∙ debit)
+    (λ _ _. unnoted .sending _ (p .recipient) (p .amount) ∙ debit)
 
 pub funding-leaves : (rules : Rules) (s m verdicts : List ℕ) (i : ℕ) → Unnoted rules i → (2 ≤ i → i < 4 → ⊥) → (InRecord rules (funding m .account .0) i → ⊥)
     → getD (fundingOrder rules s m verdicts .state) i 0 ≡ getD s i 0
@@ -71,7 +71,7 @@ funding-leaves rules s m verdicts i unnoted index out =
     funding-comes (λ x. getD (x .state) i 0 ≡ getD s i 0) rules s (λ _. refl) m verdicts (λ _ _ _. indexed s)
     (λ _ _. let t = rules .tallied s 0 (o .amount) in
     record-leaves rules (withIndex t (o .index .0)) (o .account .0) _ i (credited-size rules s (o .account .0) (o .amount)) out
-    ∙ indexed t ∙ unnoted .0 s 0 (o .amount))
+    ∙ indexed t ∙ unnoted .noting s 0 (o .amount))
 
 pub order-length : (rules : Rules) (s m verdicts : List ℕ) → length (order rules s m verdicts .state) ≡ length s
 order-length rules s m verdicts = order-comes (λ o. length (o .state) ≡ length s) rules s (λ _. refl) m verdicts (λ _. length-put _ _ _)
@@ -93,7 +93,7 @@ pub base-lays : Lays base
 base-lays = lays Layout.plain Refusals.none
 
 pub base-unnoted : (i : ℕ) → Unnoted base i
-base-unnoted i = (λ s out into. refl, λ s account amount. refl)
+base-unnoted i = record { noting = λ s out into. refl; sending = λ s account amount. refl }
 
 -- a fresh state is well formed, and every call keeps that
 pub fresh-formed : (s : List ℕ) (f own : ℕ) → fresh base s f own .answer .number ≡ 0 → WellFormed base (fresh base s f own .state)

@@ -1,5 +1,5 @@
--- 01, Rules: what each call answers, and every byte of the state afterwards, under the rules in force. By those of 01 every account is kept here, so
--- that 22 and 23 are never met, and the header notes nothing of balances.
+-- 01, Rules: what each call answers, and every byte of the state afterwards, under the rules in force. By those of 01 every account is kept
+-- here, so that 22 and 23 are never met, and the header notes nothing of balances.
 -- The order of checks: 16 on length and header; 1 on the whole message; 2; 3; 4 for a single verdict; then over all votes 5, then 6,
 -- then 4, then 7; then 16 on touched records; then the rules in their order; 16 on new values last.
 use Prim.Native.Nat.{ℕ, _+_}
@@ -61,7 +61,7 @@ order rules s m verdicts =
 abbrev pub toItself : Payment → Bool
 toItself p = eqb (p .kind) 0 && eqb (p .recipient) (p .sender .0)
 
--- the amount leaves its sender, and the balances kept here
+-- the amount leaves its sender's balance, and the header notes that it left those kept here
 abbrev pub debited : Rules → List ℕ → Payment → Record → List ℕ
 debited rules s p from = withRecord rules (rules .tallied s (p .amount) 0) (p .sender .0) (paid from (p .amount))
 
@@ -102,7 +102,7 @@ settle rules s p counts =
 unfoldable pub isPaper : List ℕ → List ℕ → Bool
 isPaper m verdicts = laid m certificateFields && (laid (inside m) bodyFields && (isPayment (payment (inside m)) && eqb (length verdicts) (votes m)))
 
--- a certificate with its verdicts; the answer carries the number of votes counted. 22, right after 3, if its sender is not kept here
+-- a certificate with its verdicts; the answer carries what is counted of the votes. 22, right after 3, if its sender is not kept here
 unfoldable pub certificate : Rules → List ℕ → List ℕ → List ℕ → Outcome
 certificate rules s m verdicts =
     need (isState rules s) (refused 16 s)

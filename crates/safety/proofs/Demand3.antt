@@ -33,7 +33,7 @@ use Rattle.ledger.specs.Answers.{paid}
 use Rattle.bookkeeping.specs.Runs.{fund-never-16, redeem-never-16}
 use Rattle.bookkeeping.specs.Layouts as ledger-layouts
 use Rattle.roundtrip.specs.Voters.{known-most}
-use Rattle.safety.specs.Runs.{Call, Moment, rules, ledger-rules, answer}
+use Rattle.safety.specs.Runs.{Call, Moment, rules, answer}
 use Rattle.safety.specs.Demand3.{AtMostF, takes, brings, toLedger, funds, Honest, OnHonest, FairVotes, Good, Safe, Kept, Demand3}
 use Rattle.safety.proofs.Papers.{papers, world, certain-counts, counts-certain}
 use Rattle.safety.proofs.Certificates.{Seats, counting-seats, judged-alike, signers-once, fair-votes}

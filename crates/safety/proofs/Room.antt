@@ -1,13 +1,13 @@
 -- Every balance of a machine can fall and rise by any amount: what the machine did bounds it. Assumes nothing.
 use Prim.Native.Nat.{ℕ, zero, suc, _+_, _*_, _≤_, _<_}
-use mathlib.Core.Path.{_≡_, sym, ap}
+use mathlib.Core.Path.{ap}
 use mathlib.Core.List.{List}
 use native.Mathlib.Omega.{arith}
 use lib.ListN.{length, length-append}
 use lib.Dec.{lit<}
 use Rattle.model.specs.Lists.{sumOf, upTo}
 use Rattle.model.specs.Quorums as quorums
-use Rattle.model.specs.Histories.{Event, debits, fundings, isOf, Lawful}
+use Rattle.model.specs.Histories.{debits, fundings, isOf, Lawful}
 use Rattle.model.proofs.Limits.{least, most}
 use Rattle.records.specs.Balances.{nought, highest}
 use Rattle.records.specs.States.{Layout, Refusals, rulesOf, recordOf}

@@ -1,6 +1,5 @@
 -- The runs of the page: the start has what holds, and so has every moment. Assumes nothing.
 use Prim.Native.Nat.{ℕ, _*_, _≤_, _<_}
-use mathlib.Core.Path.{_≡_, refl, _∙_}
 use mathlib.Core.Bool.{Bool}
 use mathlib.Core.List.{[]}
 use native.Mathlib.Omega.{arith}
@@ -13,7 +12,7 @@ use Rattle.invariants.specs.Theorems.{fresh-limits}
 use Rattle.invariants.specs.Bounds.{fresh-index}
 use Rattle.ledger.specs.States as ledger
 use Rattle.bookkeeping.specs.Layouts as ledger-layouts
-use Rattle.safety.specs.Runs.{Call, Moment, start}
+use Rattle.safety.specs.Runs.{Call, Moment}
 use Rattle.safety.specs.Demand3.{OnHonest, Fair, Run}
 use Rattle.safety.proofs.Papers.{papers}
 use Rattle.safety.proofs.Certificates.{Seats, counting-seats, one-good, fair-votes}

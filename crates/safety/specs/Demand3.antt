@@ -5,8 +5,8 @@
 -- (the one at place i), `sumOf g l` (g added up over l), `count p n` (how many of 0 .. n - 1 pass the test p); `only t a` is a where t holds, and
 -- otherwise 0; `subℕ a b` is a less b, with its sign. Of what a machine did: `votes`, `debits`, `credits` and `fundings`, the bodies voted
 -- for, confirmed and credited, and the funding orders taken. Of messages: `laid` (laid out as these fields), `inside m` (the body in m), `signersIn m`
--- (the machines of its votes), `judgedBy` (the judge of certificates, with verdicts). Of states: `WellFormed`, `recordOf` (an account's record),
--- `lastIndex` (the last funding index).
+-- (the machines of its votes), `judgedBy` (the judge of certificates, with verdicts). Of states: `Layout` (how one is laid out), `Has l f` (layout l has
+-- committees with this f), `WellFormed`, `recordOf` (an account's record), `lastIndex` (the last funding index).
 use Prim.Native.Nat.{ℕ, _+_, _*_, _≤_, _<_}
 use mathlib.Core.Path.{_≡_}
 use mathlib.Core.Bool.{Bool, true, false, _&&_, not}
