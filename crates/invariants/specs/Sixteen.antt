@@ -1,6 +1,6 @@
 -- Where balances have room no call answers 16, whatever rules are in force. Assumes nothing.
 use Prim.Native.Nat.{ℕ, _+_, _≤_}
-use mathlib.Core.Path.{_≡_, refl}
+use mathlib.Core.Path.{_≡_}
 use mathlib.Core.Bool.{Bool, true, false, cond, _||_, _&&_, not}
 use mathlib.Core.List.{List}
 use native.Mathlib.Omega.{arith}
@@ -9,6 +9,7 @@ use lib.Dec.{eqb, leb, ltb, lit≤}
 use borrow.Author.Tests.{eqb-true, le-leb, leb-true, not-false}
 use Rattle.octets.specs.Octets.{same}
 use Rattle.octets.specs.Tests.{need}
+use Rattle.octets.proofs.TestLaws.{either-second}
 use Rattle.wire.specs.Numbers.{isAccount}
 use Rattle.wire.specs.Messages.{payment, inside, funding}
 use Rattle.wire.specs.Votes.{good, signersIn}
@@ -44,10 +45,6 @@ told o = o .answer .number
 
 low : (n : ℕ) → n ≤ 15 → n ≡ 16 → ⊥
 low n h e = omega arith
-
-or-so : (t u : Bool) → u ≡ true → (t || u) ≡ true
-or-so true u e = refl
-or-so false u e = e
 
 pub order-not-16 : (rules : Rules) (s m verdicts : List ℕ) → WellFormed rules s → ((body : List ℕ) → rules .further body ≡ 16 → ⊥)
     → order rules s m verdicts .answer .number ≡ 16 → ⊥
@@ -90,7 +87,7 @@ module _ (P : Outcome → Type 0) (rules : Rules) (s m verdicts : List ℕ) (h :
 -- the records that a certificate touches are well formed
 pub touched-formed : (rules : Rules) (s m : List ℕ) → WellFormed rules s → PaymentRange (payment (inside m))
     → (let p = payment (inside m) in (not (rules .keeps (p .recipient)) || (eqb (p .kind) 1 || isFormed rules s (p .recipient))) ≡ true)
-touched-formed rules s m h range = let p = payment (inside m) in or-so (not (rules .keeps (p .recipient))) _ (recipient-formed rules s p h range)
+touched-formed rules s m h range = let p = payment (inside m) in either-second (not (rules .keeps (p .recipient))) _ (recipient-formed rules s p h range)
 
 pub certificate-not-16 : (rules : Rules) (s m verdicts : List ℕ) → HasRoom rules s → certificate rules s m verdicts .answer .number ≡ 16 → ⊥
 unfolding certificate settle settleOn
@@ -121,7 +118,7 @@ funding-not-16 rules s m verdicts h =
     beyond told (eqb (length verdicts) 1) _ _ (λ e. omega arith) (λ _.
     beyond told (good verdicts) _ _ (λ e. omega arith) (λ _.
     holds told (not (rules .keeps (o .account .0)) || isFormed rules s (o .account .0)) _ _
-    (or-so (not (rules .keeps (o .account .0))) _ (h .formed .records (o .account .0) (range .account)))
+    (either-second (not (rules .keeps (o .account .0))) _ (h .formed .records (o .account .0) (range .account)))
     (beyond told (eqb (o .index .0) (lastIndex s + 1)) _ _ (λ e. omega arith) (λ _.
     either told (not (rules .keeps (o .account .0))) _ _ (λ e. omega arith) (λ near.
     let most = h .most (o .account .0) (range .account) (not-false (rules .keeps (o .account .0)) near) in

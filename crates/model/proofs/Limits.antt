@@ -10,18 +10,13 @@ use lib.Dec.{eqb}
 use Rattle.model.specs.Lists.{In, only, sumOf, upTo}
 use Rattle.model.specs.Histories.{Payments, Event, debits, credits, fundings, outOf, into, isOf, fundTo, Lawful}
 use Rattle.model.specs.Views.{Shown, Effect, events, Follows, Changed}
-use Rattle.model.proofs.SumLaws.{only-le, sum-sub, swap, one-is}
+use Rattle.model.proofs.SumLaws.{only-le, length-sum, sum-sub, swap, one-is}
 use Rattle.model.proofs.HistoryLaws.{credit-debit, credit-once}
 
 -- a sum where each element counts for at most 10^9 times what it counts for in another
 scaled-sum : {A : Type 0} (g k : A → ℕ) (l : List A) → ((a : A) → In a l → g a ≤ 1_000_000_000 * k a) → sumOf g l ≤ 1_000_000_000 * sumOf k l
 scaled-sum g k [] h = omega arith
 scaled-sum g k (a ∷ l) h = omega (arith, h a (inl refl), scaled-sum g k l (λ c i. h c (inr i)))
-
--- where each counts for one, the sum is the length
-ones : {A : Type 0} (l : List A) → sumOf (λ a. 1) l ≡ length l
-ones [] = refl
-ones (a ∷ l) = omega (arith, ones l)
 
 scaled : (t : Bool) (a : ℕ) → a ≤ 1_000_000_000 → only t a ≤ 1_000_000_000 * only t 1
 scaled true a h = omega arith
@@ -72,7 +67,7 @@ module _ (K : Payments) (accounts lift : ℕ) where
 
     -- there are as many confirmed payments as the next sequences say
     confirmed-all : length (debits h) ≡ upTo (λ x. sumOf (isOf K x) (debits h)) accounts
-    confirmed-all = sym (ones (debits h)) ∙ same (debits h) (λ b i. m .paid b i .1) ∙ sym (swap (isOf K) accounts (debits h))
+    confirmed-all = sym (length-sum (debits h)) ∙ same (debits h) (λ b i. m .paid b i .1) ∙ sym (swap (isOf K) accounts (debits h))
       where
         same : (r : List Body) → ((b : Body) → In b r → sender b < accounts) → sumOf (λ b. 1) r ≡ sumOf (λ b. upTo (λ x. isOf K x b) accounts) r
         same [] k = refl
@@ -81,7 +76,7 @@ module _ (K : Payments) (accounts lift : ℕ) where
     -- no more credits than confirmed payments
     credits-fewer : length (credits h) ≤ length (debits h)
     credits-fewer =
-        omega (arith, ones (credits h), ones (debits h), sum-sub (λ b. 1) (credits h) (debits h) (credit-once K Certain given h l) (λ b i p. was-confirmed b i))
+        omega (arith, length-sum (credits h), length-sum (debits h), sum-sub (λ b. 1) (credits h) (debits h) (credit-once K Certain given h l) (λ b i p. was-confirmed b i))
 
     -- a balance is at least minus 10^9 times its own confirmed payments
     pub least : (x : ℕ) → x < accounts → lift ≤ s .balance x + 1_000_000_000 * s .next-of x
@@ -101,8 +96,8 @@ module _ (K : Payments) (accounts lift : ℕ) where
           f .money x k,
           confirmed-all,
           credits-fewer,
-          ones (fundings h),
-          ones (credits h),
+          length-sum (fundings h),
+          length-sum (credits h),
           scaled-sum (fundTo K x) (λ o. 1) (fundings h) (λ o i. omega (arith, only-le (eqb (account o) x) (value o), m .funded o i)),
           scaled-sum (into K x) (λ b. 1) (credits h)
               (λ b i. omega (arith, only-le (eqb (kind b) 0 && eqb (recipient b) x) (amount b), m .paid b (was-confirmed b i) .0)),

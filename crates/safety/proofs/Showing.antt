@@ -22,7 +22,7 @@ use Rattle.wire.specs.Fields.{laid}
 use Rattle.wire.specs.Messages.{fundingFields, payment, inside, funding}
 use Rattle.wire.specs.Votes.{good}
 use Rattle.wire.specs.Readers.{isBody, judgedBy}
-use Rattle.octets.proofs.TestLaws.{both}
+use Rattle.octets.proofs.TestLaws.{both, either-first, either-second, neither}
 use Rattle.wire.proofs.Laid.{body-laid}
 use Rattle.states.specs.Headers.{lastIndex, withIndex}
 use Rattle.records.specs.declared.record.Record.{Record}
@@ -149,18 +149,6 @@ confirming near b h = cond near (Event.credited b ∷ Event.confirmed b ∷ h) (
 -- a payment is done with where it is confirmed: it goes to the ledger, or to an account that is kept there
 abbrev pub isNear : Rules → List ℕ → Bool
 isNear rules b = eqb (payment b .kind) 1 || rules .keeps (payment b .recipient)
-
-or-left : (t u : Bool) → t ≡ true → (t || u) ≡ true
-or-left true u e = refl
-or-left false u e = absurd (false≢true e)
-
-or-right : (t u : Bool) → u ≡ true → (t || u) ≡ true
-or-right true u e = refl
-or-right false u e = e
-
-or-none : (t u : Bool) → t ≡ false → u ≡ false → (t || u) ≡ false
-or-none true u e f = e
-or-none false u e f = f
 
 -- where these bodies are certain and the ledger gave these orders
 module _ (rules : Rules) (lays : Lays rules) (Certain : List ℕ → Type 0) (given : List (List ℕ)) (h : History) (m verdicts : List ℕ) where
@@ -397,18 +385,18 @@ module _ (rules : Rules) (lays : Lays rules) (Certain : List ℕ → Type 0) (gi
         (λ judged kept v itself. let e = both (eqb (p .kind) 0) (eqb (p .recipient) sender) itself in
         let own = eqb-true (p .recipient) sender (e .1) in
         let there : rules .keeps (p .recipient) ≡ true = rw own kept in
-        at-once (or-right (eqb (p .kind) 1) _ there) _ (settles s formed v 0 _ (still rules _ .turns) refl
+        at-once (either-second (eqb (p .kind) 1) _ there) _ (settles s formed v 0 _ (still rules _ .turns) refl
         (λ y. rw (e .0, own) (omega (arith, lowered s formed v 0 (omega arith) y, only-le (eqb sender y) 0)))
         (λ y. rw (e .0, own) (omega (arith, marked s formed v 0 y, only-le (eqb sender y) 1))) (certain judged) (kept, λ _. there)))
-        (λ judged kept v kind enough noted-it. at-once (or-left (eqb (p .kind) 1) _ (eq-eqb (p .kind) 1 kind)) _
+        (λ judged kept v kind enough noted-it. at-once (either-first (eqb (p .kind) 1) _ (eq-eqb (p .kind) 1 kind)) _
         (to-ledger s formed v noted-it kind enough kept (certain judged)))
         (λ judged kept v there c. let e = reduced-stays s formed v (p .amount) (p .recipient) (c .other) in
         let new = reduced-formed s formed v (p .amount) in
         let g = rw e at (gains rules lays (reduced s formed v (p .amount)) (p .recipient) (p .amount) new (v .range .recipient (c .kind)) (rw e (c .room))) in
-        at-once (or-right (eqb (p .kind) 1) _ there) _ (settles s formed v (p .amount) _ (g .turns) (g .index)
+        at-once (either-second (eqb (p .kind) 1) _ there) _ (settles s formed v (p .amount) _ (g .turns) (g .index)
         (λ y. rw (c .kind) (omega (arith, g .balances y, lowered s formed v (p .amount) (c .enough) y)))
         (λ y. rw (c .kind) (omega (arith, g .marks y, marked s formed v (p .amount) y))) (certain judged) (kept, λ _. there)))
-        (λ judged kept v g. let far : near ≡ false = or-none (eqb (p .kind) 1) _ (ne-eqb (p .kind) 1 (λ z. omega (arith, z, g .kind))) (g .away) in
+        (λ judged kept v g. let far : near ≡ false = neither (eqb (p .kind) 1) _ (ne-eqb (p .kind) 1 (λ z. omega (arith, z, g .kind))) (g .away) in
         rw far (sends s formed v (g .noted) g kept (certain judged)))
 
     -- where all accounts are kept, it is credited at once
@@ -416,7 +404,7 @@ module _ (rules : Rules) (lays : Lays rules) (Certain : List ℕ → Type 0) (gi
         → (let o = on-machine.certificate rules s m verdicts in
         Comes s (o .state) (cond (isConfirmed (o .answer)) (Event.credited (inside m) ∷ Event.confirmed (inside m) ∷ h) h))
     whole-does all certain =
-        let near : isNear rules (inside m) ≡ true = or-right (eqb (payment (inside m) .kind) 1) _ (all (payment (inside m) .recipient)) in
+        let near : isNear rules (inside m) ≡ true = either-second (eqb (payment (inside m) .kind) 1) _ (all (payment (inside m) .recipient)) in
         rw near at (certificate-does certain)
 
     -- a funding order of the next index that was given
