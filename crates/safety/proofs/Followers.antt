@@ -8,10 +8,11 @@ use lib.ListN.{length}
 use lib.Dec.{lit<}
 use Rattle.model.specs.Lists.{In}
 use Rattle.model.specs.Quorums as quorums
-use Rattle.model.specs.Histories.{Event, fundings, Lawful}
+use Rattle.model.specs.Histories.{Event, votes, fundings, Lawful}
 use Rattle.model.specs.Views.{Effect, events, Follows, Changed}
 use Rattle.model.proofs.Following.{obeys, follows-same, follows-given}
 use Rattle.model.proofs.Limits.{Moderate, moderate-still}
+use Rattle.model.proofs.Moves.{votes-stay}
 use Rattle.wire.specs.Fields.{laid}
 use Rattle.wire.specs.Messages.{fundingFields, inside}
 use Rattle.wire.specs.Votes.{good}
@@ -74,46 +75,53 @@ indexed rules given s t did (Effect.delivered b) here c h = absurd here
 indexed rules given s t did (Effect.took o) here c h = elim (c .indexes _ (c .in-range)) [ inl e ↦ e .0 ∙ ap suc h | inr e ↦ absurd (e .1 refl) ]
 indexed rules given s t did (Effect.noted o) here c h = absurd here
 
+-- what a call comes to: what the machine then did is lawful and takes no vote back, and its bytes follow it
+pub record Goes (l : Layout) (r : Refusals) (C : quorums.Committee) (Certain : List ℕ → Type 0) (given : List (List ℕ)) (did : History)
+    (t : List ℕ) (longer : History) : Type 0 where
+  pub lawful : Lawful papers Certain given longer
+  pub kept : (b : List ℕ) → In b (votes did) → In b (votes longer)
+  pub follower : Follower l r C given t longer
+
 -- calls on a machine, where these bodies are certain, the ledger gave these orders and what the machine did is lawful
 module _ (l : Layout) (r : Refusals) (C : quorums.Committee) (Certain : List ℕ → Type 0) (given : List (List ℕ)) (s : List ℕ) (did : History)
     (lawful : Lawful papers Certain given did) (own : Follower l r C given s did) where
   abbrev rules : Rules
   rules = rulesOf l r
 
-  -- what a call comes to
-  abbrev Follow : List ℕ → History → Type 0
-  Follow t longer = Lawful papers Certain given longer × Follower l r C given t longer
+  abbrev Comes : List ℕ → History → Type 0
+  Comes t longer = Goes l r C Certain given did t longer
 
   does : (t : List ℕ) (longer : History) → Does rules Certain given s t did longer → WellFormed rules t → rules .committee t ≡ rules .committee s
-      → Follow t longer
+      → Comes t longer
   does t longer d formed same =
       let both = obeys papers 64 nought Certain given did (shown rules s) (shown rules t) (d .effect) lawful (own .follows) (d .changed) (d .grounded) in
-      rw (d .history) (
-        both .0,
-        record {
+      rw (d .history) (record {
+        lawful = both .0;
+        kept = votes-stay (events (d .effect)) did;
+        follower = record {
           follows = both .1;
           index = indexed rules given s t did (d .effect) (d .here) (d .changed) (own .index);
           formed = formed;
           seats = rw same (own .seats);
           moderate = moderate-still papers 64 nought given (shown rules s) (shown rules t) did (d .effect) (d .changed) (d .modest) (own .moderate);
-        },
-      )
+        };
+      })
 
   pub order-follows : (m verdicts : List ℕ)
-      → (let o = on-machine.order rules s m verdicts in Follow (o .state) (noted (o .answer) (Event.voted (inside m)) did))
+      → (let o = on-machine.order rules s m verdicts in Comes (o .state) (noted (o .answer) (Event.voted (inside m)) did))
   order-follows m verdicts =
       does _ _ (order-does rules (lays l r) Certain given did m verdicts s (own .formed))
       (order-keeps rules (lays l r) s m verdicts (own .formed)) (order-seats rules (lays l r) s m verdicts)
 
   pub certificate-follows : (m verdicts : List ℕ) → (judgedBy (rules .committee s) m verdicts .number ≡ 0 → Certain (inside m))
       → (let o = on-machine.certificate rules s m verdicts in
-      Follow (o .state) (cond (isConfirmed (o .answer)) (Event.credited (inside m) ∷ Event.confirmed (inside m) ∷ did) did))
+      Comes (o .state) (cond (isConfirmed (o .answer)) (Event.credited (inside m) ∷ Event.confirmed (inside m) ∷ did) did))
   certificate-follows m verdicts certain =
       does _ _ (whole-does rules (lays l r) Certain given did m verdicts s (own .formed) (keeps-all l r) certain)
       (certificate-keeps rules (lays l r) s m verdicts (own .formed)) (certificate-seats rules (lays l r) s m verdicts)
 
   pub funding-follows : (m verdicts : List ℕ) → Numbered given → (laid m fundingFields ≡ true → length verdicts ≡ 1 → good verdicts ≡ true → In m given)
-      → (let o = on-machine.fundingOrder rules s m verdicts in Follow (o .state) (noted (o .answer) (Event.funded m) did))
+      → (let o = on-machine.fundingOrder rules s m verdicts in Comes (o .state) (noted (o .answer) (Event.funded m) did))
   funding-follows m verdicts numbered gave =
       does _ _ (funding-does rules (lays l r) Certain given did m verdicts s (own .formed) (keeps-all l r) numbered gave)
       (funding-keeps rules (lays l r) s m verdicts (own .formed)) (funding-seats rules (lays l r) s m verdicts)

@@ -3,13 +3,12 @@ use Prim.Native.Nat.{ℕ, _<_}
 use mathlib.Core.Path.{_≡_, refl, sym, subst, _∙_}
 use mathlib.Core.Bool.{Bool, true, false, cond, false≢true}
 use mathlib.Core.List.{List, _∷_}
-use mathlib.Core.Logic.{inr}
 use lib.ListN.{length, take}
 use lib.Dec.{eqb}
 use borrow.Author.Tests.{eqb-true}
 use Rattle.model.specs.Lists.{In}
 use Rattle.model.specs.Quorums as quorums
-use Rattle.model.specs.Histories.{Event, votes, Lawful}
+use Rattle.model.specs.Histories.{Lawful}
 use Rattle.model.specs.Worlds as model
 use Rattle.model.proofs.Moves.{sound-acted, sound-gave, sound-paid-out}
 use Rattle.wire.specs.Fields.{laid}
@@ -17,27 +16,13 @@ use Rattle.wire.specs.Messages.{fundingFields, inside}
 use Rattle.wire.specs.Votes as wire
 use Rattle.wire.specs.Readers.{judgedBy}
 use Rattle.records.specs.States.{Layout, Refusals}
-use Rattle.records.specs.Calls as on-machine
 use Rattle.ledger.specs.Calls as on-ledger
 use Rattle.bookkeeping.specs.Layouts.{lays}
-use Rattle.safety.specs.Runs.{Call, Moment, rules, ledger-rules, isConfirmed, acts, after}
+use Rattle.safety.specs.Runs.{Call, Moment, ledger-rules, acts, after}
 use Rattle.safety.proofs.Papers.{papers, History, world}
 use Rattle.safety.proofs.Certificates.{Seats, Vouched, certified}
 use Rattle.safety.proofs.Books.{Books, fund-books, redeem-books, redeem-found, fund-seats, redeem-seats}
-use Rattle.safety.proofs.Followers.{Follower, given-follower, order-follows, certificate-follows, funding-follows}
-
--- votes stay where one more was given, a payment confirmed or a funding order taken, or nothing
-voted-more : (t : Bool) (b : List ℕ) (h : History) (c : List ℕ) → In c (votes h) → In c (votes (cond t (Event.voted b ∷ h) h))
-voted-more true b h c i = inr i
-voted-more false b h c i = i
-
-confirmed-more : (t : Bool) (b : List ℕ) (h : History) (c : List ℕ) → In c (votes h) → In c (votes (cond t (Event.credited b ∷ Event.confirmed b ∷ h) h))
-confirmed-more true b h c i = i
-confirmed-more false b h c i = i
-
-funded-more : (t : Bool) (o : List ℕ) (h : History) (c : List ℕ) → In c (votes h) → In c (votes (cond t (Event.funded o ∷ h) h))
-funded-more true o h c i = i
-funded-more false o h c i = i
+use Rattle.safety.proofs.Followers.{Follower, Goes, given-follower, order-follows, certificate-follows, funding-follows}
 
 -- a committee as the model weighs it
 module _ (C : quorums.Committee) (dishonest : ℕ → Bool) where
@@ -68,11 +53,10 @@ module _ (C : quorums.Committee) (dishonest : ℕ → Bool) where
   certified-by w m verdicts truth c seats good = certified C c seats dishonest w m verdicts good (truth c seats)
 
   -- a machine did something
-  holds-acts : (w : Moment) → Holds w → (k : ℕ) → Honest k → (t : List ℕ) (longer : History) → ((b : List ℕ) → In b (votes (w .did k)) → In b (votes longer))
-      → Lawful papers (model.Certain papers C dishonest (world w)) (w .given) longer × Follower (w .layouts k) (w .refusals k) C (w .given) t longer
-      → Holds (acts w k t longer)
-  holds-acts w h k honest t longer keep new = record {
-    sound = sound-acted papers C dishonest (world w) (h .sound) k longer keep (new .0);
+  holds-acts : (w : Moment) → Holds w → (k : ℕ) → Honest k → (t : List ℕ) (longer : History)
+      → Goes (w .layouts k) (w .refusals k) C (model.Certain papers C dishonest (world w)) (w .given) (w .did k) t longer → Holds (acts w k t longer)
+  holds-acts w h k honest t longer new = record {
+    sound = sound-acted papers C dishonest (world w) (h .sound) k longer (new .kept) (new .lawful);
     machines = λ n l other. at n l other (eqb k n) refl;
     books = h .books;
     seats = h .seats;
@@ -80,7 +64,7 @@ module _ (C : quorums.Committee) (dishonest : ℕ → Bool) where
     where
       at : (n : ℕ) → n < C .size → dishonest n ≡ false → (b : Bool) → eqb k n ≡ b
           → Follower (w .layouts n) (w .refusals n) C (w .given) (cond b t (w .machines n)) (cond b longer (w .did n))
-      at n l other true e = subst (λ (n : ℕ). Follower (w .layouts n) (w .refusals n) C (w .given) t longer) (eqb-true k n e) (new .1)
+      at n l other true e = subst (λ (n : ℕ). Follower (w .layouts n) (w .refusals n) C (w .given) t longer) (eqb-true k n e) (new .follower)
       at n l other false e = h .machines n l other
 
   -- one funding order more, or none, leaves what was done sound and the machines following
@@ -116,19 +100,16 @@ module _ (C : quorums.Committee) (dishonest : ℕ → Bool) where
   -- every call keeps it
   pub holds-call : (w : Moment) → Holds w → (call : Call) → Admitted w call → Holds (after w call)
   holds-call w h (Call.order k m verdicts) honest =
-      let o = on-machine.order (rules w k) (w .machines k) m verdicts in
-      holds-acts w h k honest _ _ (voted-more (eqb (o .answer .number) 0) (inside m) (w .did k))
+      holds-acts w h k honest _ _
       (order-follows (w .layouts k) (w .refusals k) C _ (w .given) (w .machines k) (w .did k) (lawful w h k honest) (own w h k honest) m verdicts)
   holds-call w h (Call.certificate k m verdicts) admitted =
       let honest = admitted .0 in
-      let o = on-machine.certificate (rules w k) (w .machines k) m verdicts in
-      holds-acts w h k honest _ _ (confirmed-more (isConfirmed (o .answer)) (inside m) (w .did k))
+      holds-acts w h k honest _ _
       (certificate-follows (w .layouts k) (w .refusals k) C _ (w .given) (w .machines k) (w .did k) (lawful w h k honest) (own w h k honest) m verdicts
       (certified-by w m verdicts (admitted .1) _ (own w h k honest .seats)))
   holds-call w h (Call.fundingOrder k m verdicts) admitted =
       let honest = admitted .0 in
-      let o = on-machine.fundingOrder (rules w k) (w .machines k) m verdicts in
-      holds-acts w h k honest _ _ (funded-more (eqb (o .answer .number) 0) m (w .did k))
+      holds-acts w h k honest _ _
       (funding-follows (w .layouts k) (w .refusals k) C _ (w .given) (w .machines k) (w .did k) (lawful w h k honest) (own w h k honest) m verdicts
       (h .books .numbered) (admitted .1))
   holds-call w h (Call.fund out account amount) admitted =
