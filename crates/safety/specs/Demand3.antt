@@ -88,9 +88,8 @@ module _ (f : ℕ) (dishonest : ℕ → Bool) where
 
   -- "the rest, like the ledger, start fresh once with that f, each under its own number, and change only by their calls": each in a layout that has this f
   pub data Run : Moment → Type 0 where
-    starts-fresh : (layouts : ℕ → machine.Layout) (ledger-layout : ledger.Layout) → ((k : ℕ) → Honest k → machine.Has (layouts k) f)
-        → ledger.Has ledger-layout f
-        → Run (start f layouts ledger-layout)
+    starts-fresh : (layouts : ℕ → machine.Layout) (ledger-layout : ledger.Layout)
+        → ((k : ℕ) → Honest k → machine.Has (layouts k) f) → ledger.Has ledger-layout f → Run (start f layouts ledger-layout)
     changes-by-call : {w : Moment} → Run w → (call : Call) → OnHonest call → Fair w call → Run (after w call)
 
   -- "Call a payment certain once its honest votes plus the number of dishonest machines reach 2f + 1."
