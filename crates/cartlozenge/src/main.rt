@@ -1,4 +1,5 @@
 // Cartlozenge: a settlement machine or the purchase ledger over a state file, and messages written and shown by hand.
+#![tactic(auto)]
 mod session;
 
 use commands::usage::usage;

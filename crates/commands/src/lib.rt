@@ -1,4 +1,5 @@
 // What the program does but for serving a state.
+#![tactic(auto)]
 pub mod drafting;
 pub mod fresh;
 pub mod usage;

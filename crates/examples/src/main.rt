@@ -1,4 +1,5 @@
 // Runs the rows of the table (crate `table`) through the code and prints what each answers.
+#![tactic(auto)]
 mod calls;
 mod papers;
 mod say;

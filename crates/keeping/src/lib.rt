@@ -1,4 +1,5 @@
 // State files, kept so that nothing is lost, one program at a time over each, and standard input.
+#![tactic(auto)]
 pub mod complaints;
 pub mod files;
 pub mod guard;
