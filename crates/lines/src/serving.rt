@@ -14,7 +14,7 @@ use text::page::{say, up_to};
 use text::{arrivals, words};
 
 // Who answers.
-#[derive(Drop)]
+#[derive(Clone, Copy)]
 pub enum Role {
     Machine,
     Ledger,

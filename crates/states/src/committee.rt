@@ -4,7 +4,7 @@ ghost use Rattle.wire.specs.Numbers.{is_faults, is_machine};
 
 use wire::kinds::Machine;
 
-#[derive(Drop)]
+#[derive(Clone, Copy)]
 pub struct Committee {
     pub faults: u64,
 }

@@ -8,7 +8,7 @@ use crate::page::up_to;
 use crate::words;
 
 // How many bytes of the buffer are held, and whether they go on with a line that was refused as too long.
-#[derive(Drop)]
+#[derive(Clone, Copy)]
 pub struct Held {
     pub filled: usize,
     pub skips: bool,

@@ -68,7 +68,7 @@ fn past_all(message: &[u8], at: usize, tag: u64, size: u16) -> usize
     LOST
 }
 
-#[derive(Drop)]
+#[derive(Clone, Copy)]
 pub struct Reader<'a> {
     pub message: &'a [u8],
     pub at: usize,

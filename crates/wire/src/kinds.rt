@@ -3,16 +3,16 @@ ghost use Rattle.std.specs.Prelude.{◌≡◌};
 ghost use Rattle.wire.specs.Numbers.{is_account, is_recipient, is_amount, is_sequence, is_index};
 ghost use Rattle.wire.specs.Messages.{is_payment, is_funding};
 
-#[derive(Drop)]
+#[derive(Clone, Copy)]
 pub struct Account(pub u64);
 
-#[derive(Drop)]
+#[derive(Clone, Copy)]
 pub struct Machine(pub u64);
 
-#[derive(Drop)]
+#[derive(Clone, Copy)]
 pub struct Sequence(pub u64);
 
-#[derive(Drop)]
+#[derive(Clone, Copy)]
 pub struct FundingIndex(pub u64);
 
 impl Account {
@@ -71,7 +71,7 @@ pub fn recipient_in_range(kind: u64, number: u64) -> bool
 }
 
 // What a body says. Of kind 0 the recipient is an account, of kind 1 an account at the ledger.
-#[derive(Drop)]
+#[derive(Clone, Copy)]
 pub struct Payment {
     pub sender: Account,
     pub kind: u64,
@@ -100,7 +100,7 @@ impl Payment {
 }
 
 // What a funding order says.
-#[derive(Drop)]
+#[derive(Clone, Copy)]
 pub struct Funding {
     pub index: FundingIndex,
     pub account: Account,
@@ -124,7 +124,7 @@ impl Funding {
 }
 
 // The note's bytes, zeros after them.
-#[derive(Drop)]
+#[derive(Clone, Copy)]
 pub struct Note {
     pub length: usize,
     pub bytes: [u8; 32],
