@@ -1,5 +1,6 @@
 // Numbers and stretches in slices of bytes, big-endian.
 #![tactic(auto)]
+
 ghost use Rattle.std.specs.Prelude.{◌≡◌, ◌+◌, ◌≤◌, ◌<◌, ◌^◌, length, replicate};
 ghost use Rattle.octets.specs.Octets as octets;
 

@@ -1,5 +1,6 @@
 // Votes: which machines signed, as bits of a u16, and whether they are a quorum.
 #![tactic(auto)]
+
 ghost use Rattle.std.specs.Prelude.{◌≡◌, ◌≤◌, ◌<◌, ◌+◌, ◌*◌, true, ◌&&◌, length};
 ghost use Rattle.std.specs.Int.Count.{ones};
 ghost use Rattle.wire.specs.Votes.{signers, good};

@@ -1,6 +1,3 @@
-pub mod Chain
 pub mod FieldLaws
-pub mod Held
 pub mod Laid
 pub mod Ranges
-pub mod Reading

@@ -1,0 +1,12 @@
+use mathlib.Core.Path.{ap, ◌∙◌}
+use mathlib.Core.List.{◌∷◌}
+use Rattle.wire.specs.Refusals.{gives, payment_values}
+use Rattle.wire.specs.declared.kinds.Payment.{Payment}
+use Rattle.messages.proofs.Told.{counted_found}
+use Rattle.messages.proofs.certificate.judge_certificate.Goals as goal
+
+pub payment-requires : goal.payment-requires
+payment-requires c = let d = (counted_found c.args.f c.args.message.now c.args.verdicts.now _ c.in-Counted.ensures).0 in (d.laid_down, d.formed)
+
+pub returns-in-Counted : goal.returns-in-Counted
+returns-in-Counted c = ap (λ (p : Payment). gives (c.in-Counted.machines ∷ payment_values p)) c.payment.ensures ∙ (counted_found c.args.f c.args.message.now c.args.verdicts.now _ c.in-Counted.ensures).1

@@ -1,0 +1,15 @@
+use Prim.Native.Nat.{ℕ, ◌+◌}
+use mathlib.Core.Path.{refl, ap, ◌∙◌}
+use mathlib.Core.List.{List}
+use native.Mathlib.Omega.{arith}
+use lib.ListN.{get_or, set, length-set}
+use Rattle.octets.specs.Octets.{put}
+use Rattle.octets.proofs.Laws.{put_more}
+use Rattle.octets.proofs.copy.Goals as goal
+
+pub loop-i-init : goal.loop-i-init
+unfolding put
+loop-i-init c = (omega arith, refl, refl)
+
+pub loop-i-preserved : goal.loop-i-preserved
+loop-i-preserved c = (omega arith, ap (λ (l : List ℕ). set l (c.args.at + c.loop-i.i) (get_or c.args.src.now c.loop-i.i 0)) c.loop-i.invariant.1 ∙ put_more _ _ _ _ c.loop-i-test.true, simp length-set c.loop-i.invariant.2)
