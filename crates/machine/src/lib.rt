@@ -1,5 +1,6 @@
 // The calls on a settlement machine. None asks anything of its caller; a refusal changes nothing.
 #![tactic(auto)]
+
 ghost use Rattle.std.specs.Prelude.{◌≡◌, true, length};
 ghost use Rattle.wire.specs.Messages.{is_funding};
 ghost use Rattle.states.specs.Outcomes.{outcome, fresh_said};

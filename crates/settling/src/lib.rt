@@ -1,5 +1,6 @@
 // Certificates: the payment is confirmed, or it was already, or a refusal.
 #![tactic(auto)]
+
 ghost use Rattle.std.specs.Prelude.{◌≡◌, true, ◌||◌, [], ◌∷◌, ◌≤◌, eqb, length};
 ghost use Rattle.wire.specs.Messages.{is_payment};
 ghost use Rattle.states.specs.Outcomes.{outcome};

@@ -1,5 +1,6 @@
 // Orders: a vote for the body, or a refusal.
 #![tactic(auto)]
+
 ghost use Rattle.std.specs.Prelude.{◌≡◌, true, ◌≤◌, length};
 ghost use Rattle.wire.specs.Messages.{is_payment};
 ghost use Rattle.states.specs.Outcomes.{outcome};
