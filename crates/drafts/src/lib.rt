@@ -1,5 +1,6 @@
 // Messages written and shown by hand: a line asks for one, and the answer is written behind what stands on a page.
 #![tactic(auto)]
+
 ghost use Rattle.std.specs.Prelude.{◌≡◌};
 ghost use Rattle.text.specs.Pages.{page, said};
 ghost use Rattle.drafts.specs.Drafts as drafts;

@@ -1,5 +1,6 @@
 // What messages say, and messages that were written.
 #![tactic(auto)]
+
 ghost use Rattle.std.specs.Prelude.{◌≡◌, cond, eqb, ◌+◌, ◌*◌, ◌<◌, length, take};
 ghost use Rattle.wire.specs.Refusals.{payment_values, funding_said};
 ghost use Rattle.wire.specs.Readers.{body_shown, order_shown};

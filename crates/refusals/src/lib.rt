@@ -1,5 +1,6 @@
 // Refusals in words, with their numbers.
 #![tactic(auto)]
+
 ghost use Rattle.std.specs.Prelude.{◌≡◌, ◌≤◌, ◌++◌};
 ghost use Rattle.wire.specs.Refusals.{refusal_number};
 ghost use Rattle.text.specs.Ascii.{ascii};

@@ -1,5 +1,6 @@
 // What a machine and the ledger answer.
 #![tactic(auto)]
+
 ghost use Rattle.ledger.specs.Answers.{fund_said, redeem_said, pot_said, log_said};
 ghost use Rattle.records.specs.Answers.{order_said, confirm_said, credit_said, account_shown};
 ghost use Rattle.text.specs.Ascii.{ascii};
