@@ -10,7 +10,7 @@ use lib.Dec.{eqb}
 use lib.ListN.{length}
 use lib.Pow.{pow-lt, shl_exact}
 use borrow.Author.Tests.{leb-true, le-leb, eqb-true}
-use Rattle.octets.specs.Octets.{one, bytes, put}
+use Rattle.octets.specs.Octets.{put}
 use Rattle.wire.specs.Numbers.{is_faults, is_account, is_amount}
 use Rattle.wire.specs.Messages.{is_funding, funding_bytes}
 use Rattle.wire.specs.Refusals.{Said}

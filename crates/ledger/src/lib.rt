@@ -1,5 +1,6 @@
 // The calls on the purchase ledger. None asks anything of its caller; a refusal changes neither state nor output.
 #![tactic(auto)]
+
 ghost use Rattle.std.specs.Prelude.{◌≡◌, true, length};
 ghost use Rattle.wire.specs.Messages.{is_payment};
 ghost use Rattle.states.specs.Outcomes.{outcome, fresh_said};

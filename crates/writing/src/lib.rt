@@ -1,5 +1,6 @@
 // Writers. A refusal writes nothing; bytes beyond what is written stay.
 #![tactic(auto)]
+
 ghost use Rattle.std.specs.Prelude.{◌≡◌, true, ◌++◌, ◌+◌, ◌*◌, ◌/◌, ◌%◌, ◌≤◌, ◌<◌, length};
 ghost use Rattle.octets.specs.Octets as octets;
 ghost use Rattle.wire.specs.Fields.{field};
