@@ -18,7 +18,7 @@ use Rattle.ledger.specs.Calls.{fresh, fund, pay, redeem, read_pot, read_log}
 use Rattle.bookkeeping.specs.Meaning.{Lays, Call, after, after_all, unless_refused, order_given, amount_funded, amount_paid, total, are_fundings, Balanced}
 use Rattle.bookkeeping.specs.Outcomes.{fresh_comes, fund_comes, redeem_comes}
 use Rattle.bookkeeping.specs.Keeping.{base_lays, state_room, index_written, pot_written, pot_leaves_index, log_leaves_index, fresh_index, fresh_pot, with_index_keeps, with_pot_keeps, with_redeemed_keeps}
-use Rattle.bookkeeping.specs.Theorems.{fresh_formed, fund_others, redeem_logs, redeem_stays, redeemed_unpaid}
+use Rattle.bookkeeping.specs.Theorems.{fresh_formed}
 
 -- the same books, with numbers that are equal to theirs
 recounted : {rules : Rules} {s : List ℕ} {orders funding paid orders' funding' paid' : ℕ} → Balanced rules s orders funding paid
@@ -161,31 +161,3 @@ all_given s orders funding paid (Call.redeeming m verdicts ∷ calls) b each few
 pub fundings_fit : (s : List ℕ) (f : ℕ) (calls : List Call) → (fresh base s f).answer.number ≡ 0 → are_fundings calls ≡ true → length calls ≤ 65_535
     → total order_given base (fresh base s f).state calls ≡ length calls
 fundings_fit s f calls h each few = all_given (fresh base s f).state 0 0 0 calls (fresh_balanced s f h) each (omega arith)
-
--- after 65,535 of them the next one is refused with 17
-pub fundings_exhaust : (s : List ℕ) (f : ℕ) (calls : List Call) (out : List ℕ) (account amount : ℕ) → (fresh base s f).answer.number ≡ 0
-    → are_fundings calls ≡ true
-    → length calls ≡ 65_535 → is_account account ≡ true → is_amount amount ≡ true
-    → (let t = after_all base (fresh base s f).state calls in fund base t out account amount ≡ unfunded 17 t out)
-fundings_exhaust s f calls out account amount h each all a v =
-    fund_exhausted out account amount (run_balanced s f calls h) a v (fundings_fit s f calls h each (omega arith) ∙ all)
-
--- what is in the log stays there, whatever calls follow
-pub run_logged : (rules : Rules) → Lays rules → (s : List ℕ) (calls : List Call) (account sequence : ℕ) → sequence ≤ 4_095
-    → is_redeemed rules s account sequence ≡ true → is_redeemed rules (after_all rules s calls) account sequence ≡ true
-unfolding after_all
-run_logged rules l s [] account sequence h e = e
-run_logged rules l s (Call.funding out a amount ∷ calls) account sequence h e =
-    run_logged rules l _ calls account sequence h (fund_others rules l s out a amount account sequence ∙ e)
-run_logged rules l s (Call.redeeming m verdicts ∷ calls) account sequence h e =
-    run_logged rules l _ calls account sequence h (redeem_stays rules l s m verdicts account sequence h e)
-
--- so one sequence of an account is paid once: after it was, whatever calls come between, no certificate for it is paid again
-pub paid_once : (rules : Rules) → Lays rules → (s m verdicts : List ℕ) (calls : List Call) (n others : List ℕ) → (redeem rules s m verdicts).answer.number ≡ 0
-    → (payment (inside n)).sender.0 ≡ (payment (inside m)).sender.0 → (payment (inside n)).sequence.0 ≡ (payment (inside m)).sequence.0
-    → (redeem rules (after_all rules (redeem rules s m verdicts).state calls) n others).answer.number ≡ 0 → ⊥
-paid_once rules l s m verdicts calls n others h account sequence =
-    let fits : (payment (inside m)).sequence.0 ≤ 4_095 =
-    redeem_comes (λ o. o.answer.number ≡ 0 → (payment (inside m)).sequence.0 ≤ 4_095) rules s m verdicts (λ n h e. absurd (omega arith)) (λ v _. v.range.sequence) h in
-    redeemed_unpaid rules _ n others
-    (rw (account, sequence) (run_logged rules l (redeem rules s m verdicts).state calls _ _ fits (redeem_logs rules l s m verdicts h)))

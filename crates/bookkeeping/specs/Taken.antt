@@ -15,7 +15,7 @@ use Rattle.records.specs.Calls.{funding_order, credit, credit_on}
 use Rattle.roundtrip.specs.Funding.{funding_given}
 use Rattle.invariants.specs.Meaning.{Reached, Limited}
 use Rattle.invariants.specs.Bounds.{room}
-use Rattle.invariants.specs.Theorems.{reached_limited}
+use Rattle.invariants.proofs.Theorems.{reached_limited}
 use Rattle.ledger.specs.States.{Rules}
 use Rattle.ledger.specs.Calls.{fund, next_funding}
 use Rattle.bookkeeping.specs.Theorems.{fund_read_back}

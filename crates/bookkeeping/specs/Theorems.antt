@@ -7,7 +7,6 @@ use Rattle.octets.proofs.Laws.{length_put, length_bytes, get_or_put_out, cut_put
 use Rattle.wire.specs.Messages.{payment, inside, funding_bytes}
 use Rattle.wire.specs.Refusals.{gives, funding_values}
 use Rattle.wire.specs.Readers.{read_funding, judged_by}
-use Rattle.wire.specs.declared.kinds.Payment.{Payment}
 use Rattle.writing.proofs.Written.{length_funding}
 use Rattle.roundtrip.specs.Funding.{funding_read_back}
 use Rattle.states.specs.Headers.{last_index, with_index}
@@ -17,8 +16,8 @@ use Rattle.ledger.specs.Answers.{paid}
 use Rattle.ledger.specs.Calls.{fresh, fund, pay, redeem, next_funding}
 use Rattle.ledger.proofs.Facts.{state_header, next_in_range}
 use Rattle.bookkeeping.specs.Meaning.{LeavesBoth, Lays}
-use Rattle.bookkeeping.specs.LogLaws.{redeemed_set, redeemed_stays, redeemed_leaves, redeemed_behind}
-use Rattle.bookkeeping.specs.Outcomes.{after_pay, MayPay, fresh_comes, fund_comes, redeem_comes}
+use Rattle.bookkeeping.specs.LogLaws.{redeemed_set, redeemed_leaves, redeemed_behind}
+use Rattle.bookkeeping.specs.Outcomes.{fresh_comes, fund_comes, redeem_comes}
 use Rattle.bookkeeping.specs.Keeping.{fresh_state_lem, log_room, with_index_keeps, with_pot_keeps, with_redeemed_keeps}
 
 -- a refusal leaves state and output, byte for byte
@@ -67,17 +66,10 @@ redeem_leaves rules s m verdicts i outside apart =
     (λ _. pot_leaves (with_redeemed rules s _ _) _ i outside ∙ redeemed_leaves rules s _ _ i apart)
 
 -- every sequence of all 64 logs reads as before where the pot is written
-pot_others : (rules : Rules) → Lays rules → (s : List ℕ) (amount account sequence : ℕ) → is_redeemed rules (with_pot s amount) account sequence ≡ is_redeemed rules s account sequence
+pub pot_others : (rules : Rules) → Lays rules → (s : List ℕ) (amount account sequence : ℕ) → is_redeemed rules (with_pot s amount) account sequence ≡ is_redeemed rules s account sequence
 pot_others rules l s amount account sequence = redeemed_behind rules s 4 (bytes eight amount) account sequence (omega (arith, length_bytes eight amount, l.room))
 
--- and so does every other one where a payment is made
-paid_others : (rules : Rules) → Lays rules → (s : List ℕ) (p : Payment) → MayPay rules s p → (account sequence : ℕ) → sequence ≤ 4_095
-    → (p.sender.0 ≡ account → p.sequence.0 ≡ sequence → ⊥) → is_redeemed rules (after_pay rules s p) account sequence ≡ is_redeemed rules s account sequence
-paid_others rules l s p v account sequence h apart =
-    pot_others rules l (with_redeemed rules s p.sender.0 p.sequence.0) _ account sequence
-    ∙ redeemed_stays rules s p.sender.0 p.sequence.0 account sequence v.range.sequence h apart
-
--- what was paid is in the log, and every other sequence of all 64 logs reads as before, whatever the call comes to
+-- what was paid is in the log
 pub redeem_logs : (rules : Rules) → Lays rules → (s m verdicts : List ℕ) → (redeem rules s m verdicts).answer.number ≡ 0
     → is_redeemed rules (redeem rules s m verdicts).state (payment (inside m)).sender.0 (payment (inside m)).sequence.0 ≡ true
 redeem_logs rules l s m verdicts =
@@ -87,13 +79,7 @@ redeem_logs rules l s m verdicts =
     (λ v _. pot_others rules l (with_redeemed rules s from sequence) _ from sequence
     ∙ redeemed_set rules s from sequence (log_room rules s from sequence v.state v.range.sender v.range.sequence))
 
-pub redeem_others : (rules : Rules) → Lays rules → (s m verdicts : List ℕ) (account sequence : ℕ) → sequence ≤ 4_095
-    → ((payment (inside m)).sender.0 ≡ account → (payment (inside m)).sequence.0 ≡ sequence → ⊥)
-    → is_redeemed rules (redeem rules s m verdicts).state account sequence ≡ is_redeemed rules s account sequence
-redeem_others rules l s m verdicts account sequence h apart =
-    redeem_comes (λ o. is_redeemed rules o.state account sequence ≡ is_redeemed rules s account sequence) rules s m verdicts (λ _ _. refl)
-    (λ v. paid_others rules l s (payment (inside m)) v account sequence h apart)
-
+-- funding leaves every sequence of all 64 logs
 pub fund_others : (rules : Rules) → Lays rules → (s out : List ℕ) (account amount : ℕ) (other sequence : ℕ)
     → is_redeemed rules (fund rules s out account amount).state other sequence ≡ is_redeemed rules s other sequence
 fund_others rules l s out account amount other sequence =
@@ -102,14 +88,7 @@ fund_others rules l s out account amount other sequence =
     (λ _. pot_others rules l (with_index s index) (pot s + amount) other sequence
     ∙ redeemed_behind rules s 2 (bytes two index) other sequence (omega (arith, length_bytes two index, l.room)))
 
--- what is in the log stays there
-pub redeem_stays : (rules : Rules) → Lays rules → (s m verdicts : List ℕ) (account sequence : ℕ) → sequence ≤ 4_095
-    → is_redeemed rules s account sequence ≡ true → is_redeemed rules (redeem rules s m verdicts).state account sequence ≡ true
-redeem_stays rules l s m verdicts account sequence h e =
-    redeem_comes (λ o. is_redeemed rules o.state account sequence ≡ true) rules s m verdicts (λ _ _. e)
-    (λ v. paid_others rules l s (payment (inside m)) v account sequence h (λ p q. false≢true (sym (rw (p, q) at v.unredeemed) ∙ e)) ∙ e)
-
--- and is never paid again, whatever votes it comes with
+-- what is in the log is never paid again, whatever votes it comes with
 pub redeemed_unpaid : (rules : Rules) (s m verdicts : List ℕ) → is_redeemed rules s (payment (inside m)).sender.0 (payment (inside m)).sequence.0 ≡ true
     → (redeem rules s m verdicts).answer.number ≡ 0 → ⊥
 redeemed_unpaid rules s m verdicts e =

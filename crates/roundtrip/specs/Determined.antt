@@ -71,27 +71,32 @@ said_injective said refused given law = back_injective said (λ s. answered refu
 -- answers of the reader of a body or an order
 pub body_said_injective : (a b : BodyAnswer) → body_said a ≡ body_said b → a ≡ b
 body_said_injective = said_injective body_said BodyAnswer.Refused (λ vs. BodyAnswer.Pays (payment_of vs))
-    (λ a. elim a [ BodyAnswer.Pays p ↦ refl | BodyAnswer.Refused r ↦ answered_refusal BodyAnswer.Refused _ r ])
+    (λ a. elim a as (λ k. answered BodyAnswer.Refused (body_said k).number (BodyAnswer.Pays (payment_of (body_said k).values)) ≡ k)
+    [ BodyAnswer.Pays p ↦ refl | BodyAnswer.Refused r ↦ answered_refusal BodyAnswer.Refused _ r ])
 
 -- answers of the reader of a funding order
 pub funding_said_injective : (a b : FundingAnswer) → funding_said a ≡ funding_said b → a ≡ b
 funding_said_injective = said_injective funding_said FundingAnswer.Refused (λ vs. FundingAnswer.Funds (funding_of vs))
-    (λ a. elim a [ FundingAnswer.Funds o ↦ refl | FundingAnswer.Refused r ↦ answered_refusal FundingAnswer.Refused _ r ])
+    (λ a. elim a as (λ k. answered FundingAnswer.Refused (funding_said k).number (FundingAnswer.Funds (funding_of (funding_said k).values)) ≡ k)
+    [ FundingAnswer.Funds o ↦ refl | FundingAnswer.Refused r ↦ answered_refusal FundingAnswer.Refused _ r ])
 
 -- answers of the reader of a certificate
 pub certificate_said_injective : (a b : CertificateAnswer) → certificate_said a ≡ certificate_said b → a ≡ b
 certificate_said_injective = said_injective certificate_said CertificateAnswer.Refused (λ vs. CertificateAnswer.Certifies (payment_of (drop 1 vs)) (get_or vs 0 0))
-    (λ a. elim a [ CertificateAnswer.Certifies p n ↦ refl | CertificateAnswer.Refused r ↦ answered_refusal CertificateAnswer.Refused _ r ])
+    (λ a. elim a as (λ k. answered CertificateAnswer.Refused (certificate_said k).number (CertificateAnswer.Certifies (payment_of (drop 1 (certificate_said k).values)) (get_or (certificate_said k).values 0 0)) ≡ k)
+    [ CertificateAnswer.Certifies p n ↦ refl | CertificateAnswer.Refused r ↦ answered_refusal CertificateAnswer.Refused _ r ])
 
 -- answers of the judge of a certificate without the payment
 pub votes_said_injective : (a b : VotesAnswer) → votes_said a ≡ votes_said b → a ≡ b
 votes_said_injective = said_injective votes_said VotesAnswer.Refused (λ vs. VotesAnswer.Counted (get_or vs 0 0))
-    (λ a. elim a [ VotesAnswer.Counted n ↦ refl | VotesAnswer.Refused r ↦ answered_refusal VotesAnswer.Refused _ r ])
+    (λ a. elim a as (λ k. answered VotesAnswer.Refused (votes_said k).number (VotesAnswer.Counted (get_or (votes_said k).values 0 0)) ≡ k)
+    [ VotesAnswer.Counted n ↦ refl | VotesAnswer.Refused r ↦ answered_refusal VotesAnswer.Refused _ r ])
 
 -- answers of a writer
 pub write_said_injective : (a b : WriteAnswer) → write_said a ≡ write_said b → a ≡ b
 write_said_injective = said_injective write_said WriteAnswer.Refused (λ vs. WriteAnswer.Wrote (get_or vs 0 0))
-    (λ a. elim a [ WriteAnswer.Wrote n ↦ refl | WriteAnswer.Refused r ↦ answered_refusal WriteAnswer.Refused _ r ])
+    (λ a. elim a as (λ k. answered WriteAnswer.Refused (write_said k).number (WriteAnswer.Wrote (get_or (write_said k).values 0 0)) ≡ k)
+    [ WriteAnswer.Wrote n ↦ refl | WriteAnswer.Refused r ↦ answered_refusal WriteAnswer.Refused _ r ])
 
 -- what the reader of a body gives, the note too
 pub body_shown_injective : (a b : BodyRead) → readers.body_shown a ≡ readers.body_shown b → a ≡ b

@@ -1,14 +1,14 @@
 -- Demand 2 and document 01, Messages: what our writers make is read back as the same values, and what a reader accepts is
 -- written again as the same bytes. Assumes nothing.
 use Rattle.std.specs.Prelude.{ℕ, ◌+◌, ◌*◌, ◌/◌, ◌≤◌, ◌≡◌, true, List, [], ◌∷◌, ◌↔◌, length, get_or, take, replicate}
-use Rattle.std.proofs.Common.{sym, ap, ◌∙◌, arith, leb-true}
+use Rattle.std.proofs.Common.{ap, ◌∙◌, arith, leb-true}
 use Rattle.octets.specs.Octets.{put}
 use Rattle.octets.proofs.Laws.{cut_put, put_all}
 use Rattle.wire.specs.Fields.{laid}
 use Rattle.wire.specs.Messages.{body_fields, inside, payment, note_in, signature_in}
 use Rattle.wire.specs.Votes.{votes, signers_in, votes_in}
-use Rattle.wire.specs.Refusals.{Said, gives, payment_values, funding_values}
-use Rattle.wire.specs.Readers.{is_body, note_held, read_body, read_order, read_funding, read_certificate, judged}
+use Rattle.wire.specs.Refusals.{gives, payment_values, funding_values}
+use Rattle.wire.specs.Readers.{is_body, note_held, read_body, read_order, read_funding, read_certificate}
 use Rattle.wire.specs.Writers.{Written, write_body, write_order, write_funding, write_certificate}
 use Rattle.wire.specs.declared.kinds.Note.{Note}
 use Rattle.wire.specs.declared.kinds.Payment.{Payment}
@@ -21,10 +21,8 @@ use Rattle.roundtrip.specs.Answers.{said, told, Wrote, wrote_size}
 use Rattle.roundtrip.specs.Body.{body_wrote, body_read_back, payment_given, body_again}
 use Rattle.roundtrip.specs.Order.{order_wrote, order_read_back, order_given_lem, order_again}
 use Rattle.roundtrip.specs.Funding.{funding_wrote, funding_read_back, funding_given, funding_again}
-use Rattle.roundtrip.specs.Certificate.{certificate_wrote, certificate_read_back, certificate_given, certificate_again, certifies_written, certifies_size, judged_read}
-use Rattle.roundtrip.specs.VoteLaws.{length_signers}
+use Rattle.roundtrip.specs.Certificate.{certificate_wrote, certificate_read_back, certificate_again, certifies_written, certifies_size}
 use Rattle.model.specs.Lists.{In, Distinct}
-use Rattle.roundtrip.specs.Voters.{rising_distinct, known_most}
 
 -- what a writer made: the first bytes of the output, as many as its answer says; none if it refused
 abbrev pub made : Written → List ℕ
@@ -129,20 +127,3 @@ pub record Voters (f : ℕ) (m : List ℕ) (n : ℕ) : Type 0 where
   pub different : Distinct (signers_in m)
   pub members : (k : ℕ) → In k (signers_in m) → k ≤ 3 * f
   pub quorum : 2 * f + 1 ≤ n
-
--- The number that the certificate reader gives is that of the different machines that voted
-pub reader_voters : (f : ℕ) (m : List ℕ) (n : ℕ) (vs : List ℕ) → read_certificate f m ≡ gives (n ∷ vs) → Voters f m n
-reader_voters f m n vs h =
-    let c = certificate_given f m (ap said h) in
-    let e : length (signers_in m) ≡ n = ap (λ (s : Said). get_or s.values 0 0) (sym c.answer ∙ h) in
-    record {
-      count = sym (length_signers m _ 68 (votes m)) ∙ e;
-      machines = e;
-      different = rising_distinct (signers_in m) c.all_rising;
-      members = λ k i. known_most (signers_in m) (3 * f) k c.all_known i;
-      quorum = omega (arith, leb-true);
-    }
-
--- and so is the number that a certificate judged with its verdicts gives
-pub voters : (f : ℕ) (m verdicts : List ℕ) (n : ℕ) (vs : List ℕ) → judged f m verdicts ≡ gives (n ∷ vs) → Voters f m n
-voters f m verdicts n vs h = reader_voters f m n vs (sym (judged_read f m verdicts (ap said h)) ∙ h)

@@ -22,7 +22,8 @@ use Rattle.ledger.specs.Calls.{fund, redeem, next_funding}
 use Rattle.bookkeeping.specs.Meaning.{Lays, Moved, Call, Balanced}
 use Rattle.bookkeeping.specs.Outcomes.{MayPay, fund_comes, redeem_comes}
 use Rattle.bookkeeping.specs.Keeping.{fresh_state_lem, fresh_index, fresh_pot}
-use Rattle.bookkeeping.specs.Theorems.{fund_refused, redeem_refused, fund_others, redeem_logs, redeem_others, redeem_stays, fund_read_back}
+use Rattle.bookkeeping.specs.Theorems.{fund_refused, redeem_refused, fund_others, redeem_logs, fund_read_back}
+use Rattle.bookkeeping.proofs.Theorems.{redeem_others, redeem_stays}
 use Rattle.bookkeeping.specs.Runs.{call_balanced}
 use Rattle.bookkeeping.specs.Layouts.{moved_balanced}
 use Rattle.safety.specs.Runs.{noted}

@@ -1,5 +1,5 @@
 -- A machine whose bytes follow what it did, in any layout: every call on it keeps that. Assumes nothing.
-use Prim.Native.Nat.{ℕ, suc, ◌+◌}
+use Prim.Native.Nat.{ℕ, suc}
 use mathlib.Core.Path.{◌≡◌, refl, ap, ◌∙◌}
 use mathlib.Core.Bool.{true, cond}
 use mathlib.Core.List.{List, [], ◌∷◌, ◌++◌}
@@ -22,7 +22,8 @@ use Rattle.records.specs.Balances.{nought}
 use Rattle.records.specs.States.{Rules, Layout, Refusals, rules_of}
 use Rattle.records.specs.Calls as on-machine
 use Rattle.invariants.specs.Meaning.{WellFormed, Moved}
-use Rattle.invariants.specs.Theorems.{order_keeps, certificate_keeps, funding_keeps}
+use Rattle.invariants.specs.Theorems.{order_keeps}
+use Rattle.invariants.proofs.Theorems.{certificate_keeps, funding_keeps}
 use Rattle.invariants.specs.Moving.{moved_formed}
 use Rattle.invariants.specs.Layouts.{lays, keeps_all}
 use Rattle.safety.specs.Runs.{noted, is_confirmed}
