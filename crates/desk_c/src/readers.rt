@@ -1,0 +1,51 @@
+// The readers. Their values go into a lent array.
+ghost use Rattle.std.specs.Prelude.{◌≡◌};
+ghost use Rattle.wire.specs.Readers.{read_body, read_order, read_funding, read_certificate, judged, covered_at};
+ghost use Rattle.desk.specs.Layout.{stretch_bits, packed, left, showing, noted, stretch_said};
+
+#[unsafe(no_mangle)]
+pub extern "C" fn cartlozenge_read_body(message: &[u8], values: &mut [u64; 6]) -> u64
+    ensures { left result values.new ≡ showing (noted (read_body message.now).answer (read_body message.now).note.length) values.old }
+{
+    desk::readers::cartlozenge_read_body(message, values)
+}
+
+#[unsafe(no_mangle)]
+pub extern "C" fn cartlozenge_read_order(message: &[u8], values: &mut [u64; 6]) -> u64
+    ensures { left result values.new ≡ showing (noted (read_order message.now).answer (read_order message.now).note.length) values.old }
+{
+    desk::readers::cartlozenge_read_order(message, values)
+}
+
+#[unsafe(no_mangle)]
+pub extern "C" fn cartlozenge_read_funding_order(message: &[u8], values: &mut [u64; 3]) -> u64
+    ensures { left result values.new ≡ showing (read_funding message.now) values.old }
+{
+    desk::readers::cartlozenge_read_funding_order(message, values)
+}
+
+#[unsafe(no_mangle)]
+pub extern "C" fn cartlozenge_read_certificate(f: u64, message: &[u8], values: &mut [u64; 6]) -> u64
+    ensures { left result values.new ≡ showing (read_certificate f message.now) values.old }
+{
+    desk::readers::cartlozenge_read_certificate(f, message, values)
+}
+
+#[unsafe(no_mangle)]
+pub extern "C" fn cartlozenge_judge_certificate(
+    f: u64,
+    message: &[u8],
+    verdicts: &[u8],
+    values: &mut [u64; 6],
+) -> u64
+    ensures { left result values.new ≡ showing (judged f message.now verdicts.now) values.old }
+{
+    desk::readers::cartlozenge_judge_certificate(f, message, verdicts, values)
+}
+
+#[unsafe(no_mangle)]
+pub extern "C" fn cartlozenge_covered(message: &[u8]) -> u64
+    ensures { result ≡ packed stretch_bits (stretch_said (covered_at message.now)) }
+{
+    desk::readers::cartlozenge_covered(message)
+}
