@@ -8,7 +8,6 @@ ghost use Rattle.lines.specs.Serving.{turned};
 use keeping::complaints::complain;
 use keeping::input::Reading;
 use keeping::{guard, input, saving};
-use libc::STDOUT_FILENO;
 use lines::files::is_file;
 use lines::serving;
 use lines::serving::Role;
@@ -32,19 +31,19 @@ fn stop(held: Held) -> Going
 }
 
 // The input has ended.
-fn finish(input: &[u8], held: Held) -> Going
+fn finish(rt: HostRuntime, input: &[u8], held: Held) -> Going
     ensures { result.held ≡ held }
 {
     let mut out = [0u8; serving::LONGEST];
     let n = serving::finish(input, held, &mut out);
-    io::write_all(STDOUT_FILENO, up_to(&out, n));
+    let _ = rt.write_all(up_to(&out, n));
     stop(held)
 }
 
-fn read_more(input: &mut [u8], held: Held) -> Going
+fn read_more(rt: HostRuntime, input: &mut [u8], held: Held) -> Going
     ensures { Grows (held_in input.old held) (held_in input.new result.held) }
 {
-    let arrival = input::read_more(input, held);
+    let arrival = input::read_more(rt, input, held);
     let later = arrival.held;
     let reading = arrival.reading;
     match reading {
@@ -52,13 +51,14 @@ fn read_more(input: &mut [u8], held: Held) -> Going
             held: later,
             goes_on: true,
         },
-        Reading::Ended => finish(input, later),
+        Reading::Ended => finish(rt, input, later),
         Reading::Failed => stop(later),
     }
 }
 
 // The state is that of the turn, and what is held is what it left, with what was read behind it.
 fn go_on(
+    rt: HostRuntime,
     role: Role,
     path: &[u8],
     state: &mut [u8],
@@ -71,11 +71,11 @@ fn go_on(
 {
     let turn = serving::take_turn(role, state, input, held, out);
     let left = turn.held;
-    if !saving::settle(path, state, saved, up_to(out, turn.length)) {
+    if !saving::settle(rt, path, state, saved, up_to(out, turn.length)) {
         return stop(left);
     }
     if turn.waits {
-        return read_more(input, left);
+        return read_more(rt, input, left);
     }
     Going {
         held: left,
@@ -84,10 +84,10 @@ fn go_on(
 }
 
 // A proved loop has to end, and nothing says that the input does. So turns are counted down, from a number that no run uses up.
-fn converse(role: Role, path: &[u8], state: &mut [u8], saved: &mut [u8]) {
-    let mut space = io::large_buffer();
+fn converse(rt: HostRuntime, role: Role, path: &[u8], state: &mut [u8], saved: &mut [u8]) {
+    let mut space = [0u8; 65536];
     let input: &mut [u8] = &mut space;
-    let mut page = io::large_buffer();
+    let mut page = [0u8; 65536];
     let out: &mut [u8] = &mut page;
     let mut held = Held {
         filled: 0,
@@ -95,7 +95,7 @@ fn converse(role: Role, path: &[u8], state: &mut [u8], saved: &mut [u8]) {
     };
     let mut turns = u64::MAX;
     while 0 < turns {
-        let going = go_on(role, path, state, saved, input, held, out);
+        let going = go_on(rt, role, path, state, saved, input, held, out);
         if !going.goes_on {
             return;
         }
@@ -104,12 +104,13 @@ fn converse(role: Role, path: &[u8], state: &mut [u8], saved: &mut [u8]) {
     }
 }
 
-fn open(role: Role, path: &[u8], state: &mut [u8], saved: &mut [u8]) -> bool {
-    if !saving::open(path, state) {
+fn open(rt: HostRuntime, role: Role, path: &[u8], state: &mut [u8], saved: &mut [u8]) -> bool {
+    if !saving::open(rt, path, state) {
         return false;
     }
     if !is_file(role, state) {
         complain(
+            rt,
             path,
             b"refused 16: the state is ill-formed; it is left alone",
         );
@@ -119,18 +120,18 @@ fn open(role: Role, path: &[u8], state: &mut [u8], saved: &mut [u8]) -> bool {
     true
 }
 
-fn serve_file(role: Role, path: &[u8], state: &mut [u8], saved: &mut [u8]) {
-    if !open(role, path, state, saved) {
+fn serve_file(rt: HostRuntime, role: Role, path: &[u8], state: &mut [u8], saved: &mut [u8]) {
+    if !open(rt, role, path, state, saved) {
         return;
     }
-    converse(role, path, state, saved);
+    converse(rt, role, path, state, saved);
 }
 
 // Serves the state in a file until the input ends.
-pub(crate) fn run(role: Role, path: &[u8], state: &mut [u8], saved: &mut [u8]) {
-    if !guard::take(path) {
+pub(crate) fn run(rt: HostRuntime, role: Role, path: &[u8], state: &mut [u8], saved: &mut [u8]) {
+    if !guard::take(rt, path) {
         return;
     }
-    serve_file(role, path, state, saved);
-    guard::give_back(path);
+    serve_file(rt, role, path, state, saved);
+    guard::give_back(rt, path);
 }

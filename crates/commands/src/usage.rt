@@ -1,9 +1,6 @@
 // How the program is started.
-use libc::STDERR_FILENO;
-
-pub fn usage() {
-    io::write_all(
-        STDERR_FILENO,
+pub fn usage(rt: HostRuntime) {
+    let _ = rt.stderr().write_all(
         b"\
 cartlozenge machine STATE                   a settlement machine; calls come on standard input, one line each\n\
 cartlozenge ledger STATE                    the purchase ledger, likewise\n\

@@ -8,7 +8,7 @@ use states::committee::Committee;
 use wire::answers::{BodyAnswer, FundingAnswer};
 use wire::kinds::{Account, Funding, FundingIndex, Machine, Payment, Sequence};
 
-pub(crate) fn write_body(before: &[u8], amount: u64) {
+pub(crate) fn write_body(rt: HostRuntime, before: &[u8], amount: u64) {
     let payment = Payment {
         sender: Account(2),
         kind: 0,
@@ -17,42 +17,42 @@ pub(crate) fn write_body(before: &[u8], amount: u64) {
         sequence: Sequence(0),
     };
     let mut out = [170u8; 57];
-    say::text(before);
-    say::written(writing::write_body(&mut out, payment, b""));
-    say::hex(&out);
+    say::text(rt, before);
+    say::written(rt, writing::write_body(&mut out, payment, b""));
+    say::hex(rt, &out);
 }
 
-pub(crate) fn read_body(before: &[u8], amount: u64) {
+pub(crate) fn read_body(rt: HostRuntime, before: &[u8], amount: u64) {
     let message = papers::body(amount, 0);
     let read = body::read_body(&message);
     let answer = read.answer;
     let note = read.note;
-    say::text(before);
+    say::text(rt, before);
     match answer {
-        BodyAnswer::Pays(payment) => say::payment(payment),
-        BodyAnswer::Refused(refusal) => say::refused(refusal),
+        BodyAnswer::Pays(payment) => say::payment(rt, payment),
+        BodyAnswer::Refused(refusal) => say::refused(rt, refusal),
     }
-    say::number(b", bytes of note ", note.length as u64);
+    say::number(rt, b", bytes of note ", note.length as u64);
 }
 
-pub(crate) fn write_funding(before: &[u8], amount: u64) {
+pub(crate) fn write_funding(rt: HostRuntime, before: &[u8], amount: u64) {
     let order = Funding {
         index: FundingIndex(1),
         account: Account(2),
         amount,
     };
     let mut out = [170u8; 20];
-    say::text(before);
-    say::written(writing::write_funding(&mut out, order));
-    say::hex(&out);
+    say::text(rt, before);
+    say::written(rt, writing::write_funding(&mut out, order));
+    say::hex(rt, &out);
 }
 
-pub(crate) fn read_funding(before: &[u8], amount: u64) {
+pub(crate) fn read_funding(rt: HostRuntime, before: &[u8], amount: u64) {
     let message = papers::funding(amount);
-    say::text(before);
+    say::text(rt, before);
     match funding::read_funding(&message) {
-        FundingAnswer::Funds(order) => say::funding(order),
-        FundingAnswer::Refused(refusal) => say::refused(refusal),
+        FundingAnswer::Funds(order) => say::funding(rt, order),
+        FundingAnswer::Refused(refusal) => say::refused(rt, refusal),
     }
 }
 
@@ -62,27 +62,28 @@ pub(crate) fn fresh() -> [u8; 4616] {
     state
 }
 
-pub(crate) fn fund(before: &[u8], state: &mut [u8], amount: u64) {
+pub(crate) fn fund(rt: HostRuntime, before: &[u8], state: &mut [u8], amount: u64) {
     let message = papers::funding(amount);
-    say::text(before);
+    say::text(rt, before);
     match machine::handle_funding(state, &message, b"\x01") {
-        CreditAnswer::Credited => say::text(b"credited"),
-        CreditAnswer::Refused(refusal) => say::refused(refusal),
+        CreditAnswer::Credited => say::text(rt, b"credited"),
+        CreditAnswer::Refused(refusal) => say::refused(rt, refusal),
     }
 }
 
-pub(crate) fn order(before: &[u8], state: &mut [u8], amount: u64, sequence: u8) {
+pub(crate) fn order(rt: HostRuntime, before: &[u8], state: &mut [u8], amount: u64, sequence: u8) {
     let message = papers::order(amount, sequence);
-    say::text(before);
+    say::text(rt, before);
     match machine::handle_order(state, &message, b"\x01") {
-        OrderAnswer::VoteNew => say::text(b"vote, new"),
-        OrderAnswer::VoteRepeated => say::text(b"vote, repeated"),
-        OrderAnswer::Refused(refusal) => say::refused(refusal),
+        OrderAnswer::VoteNew => say::text(rt, b"vote, new"),
+        OrderAnswer::VoteRepeated => say::text(rt, b"vote, repeated"),
+        OrderAnswer::Refused(refusal) => say::refused(rt, refusal),
     }
 }
 
 // With the first few of the votes of machines 0, 1, `third` and 3.
 pub(crate) fn certificate(
+    rt: HostRuntime,
     before: &[u8],
     state: &mut [u8],
     amount: u64,
@@ -94,29 +95,29 @@ pub(crate) fn certificate(
 {
     let message = papers::certificate(amount, sequence, third);
     let verdicts = [1u8; 4];
-    say::text(before);
+    say::text(rt, before);
     match machine::handle_certificate(
         state,
         octets::cut(&message, 0, 28 + 68 * votes),
         octets::cut(&verdicts, 0, votes),
     ) {
-        ConfirmAnswer::Confirmed(n) => say::number(b"confirmed, votes ", n),
-        ConfirmAnswer::Already(n) => say::number(b"already, votes ", n),
-        ConfirmAnswer::Refused(refusal) => say::refused(refusal),
+        ConfirmAnswer::Confirmed(n) => say::number(rt, b"confirmed, votes ", n),
+        ConfirmAnswer::Already(n) => say::number(rt, b"already, votes ", n),
+        ConfirmAnswer::Refused(refusal) => say::refused(rt, refusal),
     }
 }
 
-pub(crate) fn account(before: &[u8], state: &[u8], number: u64) {
-    say::text(before);
+pub(crate) fn account(rt: HostRuntime, before: &[u8], state: &[u8], number: u64) {
+    say::text(rt, before);
     match machine::read_account(state, Account(number)) {
-        AccountAnswer::Shows(reading) => say::reading(reading),
-        AccountAnswer::Refused(refusal) => say::refused(refusal),
+        AccountAnswer::Shows(reading) => say::reading(rt, reading),
+        AccountAnswer::Refused(refusal) => say::refused(rt, refusal),
     }
 }
 
 // The header, and the records of accounts 2 and 7 where they stand.
-pub(crate) fn bytes(state: &[u8; 4616]) {
-    say::hex(octets::cut(state, 0, 8));
-    say::hex(octets::cut(state, 152, 72));
-    say::hex(octets::cut(state, 512, 72));
+pub(crate) fn bytes(rt: HostRuntime, state: &[u8; 4616]) {
+    say::hex(rt, octets::cut(state, 0, 8));
+    say::hex(rt, octets::cut(state, 152, 72));
+    say::hex(rt, octets::cut(state, 512, 72));
 }

@@ -1,13 +1,14 @@
 // One program at a time over a state: beside it a lock file says which process has it. A lock that is left over from a process
 // that was killed, or from before the machine was started, is inherited by one program.
-use crate::complaints::{complain, fail};
-use crate::files::{name_beside, own_digits};
-use libc::STDERR_FILENO;
+use crate::complaints::{complain, fail, tell};
+use crate::files::{create, look, name_beside, open, own_digits, read_full, remove, rename};
+use std::fs::File;
+use std::io::{Error, ErrorKind, Write};
+use std::rt::Clock;
+use std::time::Duration;
+use std::{io, thread};
 use text::page::{say, say_numbered, up_to};
 use text::words;
-
-// The error's number where no process has a number.
-const NO_PROCESS: i32 = 3;
 
 fn lock_name(path: &[u8], name: &mut [u8]) -> usize {
     let ended = say(name, 0, path);
@@ -25,36 +26,38 @@ fn heir_name(path: &[u8], depth: u64, name: &mut [u8]) -> usize {
 enum Mark {
     Text(usize),
     Missing,
-    Unreadable,
+    Unreadable(Error),
 }
 
 // Puts the text of a small file into out.
-fn read_mark(name: &[u8], out: &mut [u8]) -> Mark {
-    let file = os::open_read(name);
-    if file < 0 {
-        if os::errno() == libc::ENOENT {
-            return Mark::Missing;
+fn read_mark(rt: HostRuntime, name: &[u8], out: &mut [u8]) -> Mark {
+    match open(rt, name) {
+        Ok(file) => {
+            let mut file = file;
+            Mark::Text(read_full(&mut file, out))
         }
-        return Mark::Unreadable;
+        Err(error) => {
+            if error.kind() == ErrorKind::NotFound {
+                return Mark::Missing;
+            }
+            Mark::Unreadable(error)
+        }
     }
-    let n = io::read_full(file, out);
-    libc::close(file);
-    Mark::Text(n)
 }
 
 // A text that is another after each start of the machine; none where it cannot be read.
-fn start_text(out: &mut [u8]) -> usize {
-    match read_mark(b"/proc/sys/kernel/random/boot_id", out) {
+fn start_text(rt: HostRuntime, out: &mut [u8]) -> usize {
+    match read_mark(rt, b"/proc/sys/kernel/random/boot_id", out) {
         Mark::Text(n) => n,
         Mark::Missing => 0,
-        Mark::Unreadable => 0,
+        Mark::Unreadable(_) => 0,
     }
 }
 
 // Whether a mark is of this start of the machine, as far as one can tell.
-fn is_of_this_start(mark: &[u8]) -> bool {
+fn is_of_this_start(rt: HostRuntime, mark: &[u8]) -> bool {
     let mut space = [0u8; 64];
-    let n = start_text(&mut space);
+    let n = start_text(rt, &mut space);
     let start = words::word(up_to(&space, n), 0);
     let marked = words::word(mark, 1);
     if start.len() == 0 {
@@ -66,54 +69,68 @@ fn is_of_this_start(mark: &[u8]) -> bool {
     octets::same(marked, start)
 }
 
-fn runs(digits: &[u8]) -> bool {
+// Whether the system shows a process. One that it does not show may run all the same, unless it shows the first, which always runs.
+fn is_shown(rt: HostRuntime, number: u64) -> bool {
+    let mut space = [0u8; 32];
+    let n = say_numbered(&mut space, 0, b"/proc/", number);
+    match look(rt, up_to(&space, n)) {
+        Ok(()) => true,
+        Err(error) => error.kind() != ErrorKind::NotFound,
+    }
+}
+
+// To the system 0 is who asks.
+fn runs(rt: HostRuntime, digits: &[u8]) -> bool {
     let number = words::number(digits);
     if number > 2147483647 {
         return false;
     }
-    if libc::getpgid(number as i32) >= 0 {
+    if number == 0 {
         return true;
     }
-    os::errno() != NO_PROCESS
+    if is_shown(rt, number) {
+        return true;
+    }
+    !is_shown(rt, 1)
 }
 
 // Whether the process that left a mark still runs.
-fn is_held(mark: &[u8]) -> bool {
-    if !is_of_this_start(mark) {
+fn is_held(rt: HostRuntime, mark: &[u8]) -> bool {
+    if !is_of_this_start(rt, mark) {
         return false;
     }
-    runs(words::word(mark, 0))
+    runs(rt, words::word(mark, 0))
 }
 
 // What this process writes into a lock: its number, and the text of this start of the machine.
-fn own_mark(out: &mut [u8]) -> usize {
-    let numbered = own_digits(out);
+fn own_mark(rt: HostRuntime, out: &mut [u8]) -> usize {
+    let numbered = own_digits(rt, out);
     let next = say(out, numbered, b" ");
     let mut space = [0u8; 64];
-    let n = start_text(&mut space);
+    let n = start_text(rt, &mut space);
     say(out, next, up_to(&space, n))
 }
 
 // Whether a lock is there and says this.
-fn says(name: &[u8], mark: &[u8]) -> bool {
+fn says(rt: HostRuntime, name: &[u8], mark: &[u8]) -> bool {
     let mut text = [0u8; 128];
-    match read_mark(name, &mut text) {
+    match read_mark(rt, name, &mut text) {
         Mark::Text(n) => octets::same(up_to(&text, n), mark),
         Mark::Missing => false,
-        Mark::Unreadable => false,
+        Mark::Unreadable(_) => false,
     }
 }
 
-fn is_own(name: &[u8]) -> bool {
+fn is_own(rt: HostRuntime, name: &[u8]) -> bool {
     let mut mark = [0u8; 128];
-    let end = own_mark(&mut mark);
-    says(name, up_to(&mark, end))
+    let end = own_mark(rt, &mut mark);
+    says(rt, name, up_to(&mark, end))
 }
 
-fn write_mark(file: i32) -> bool {
+fn write_mark(rt: HostRuntime, file: &mut File) -> io::Result<()> {
     let mut mark = [0u8; 128];
-    let end = own_mark(&mut mark);
-    io::write_all(file, up_to(&mark, end))
+    let end = own_mark(rt, &mut mark);
+    file.write_all(up_to(&mark, end))
 }
 
 #[derive(Drop)]
@@ -124,52 +141,67 @@ enum Claimed {
 }
 
 // Makes a lock file with our mark, where there is none. One with our very mark was left by a process that had our number before us.
-fn claim(name: &[u8]) -> Claimed {
-    let file = os::create(name);
-    if file < 0 {
-        if os::errno() != libc::EEXIST {
-            fail(name);
-            return Claimed::Failed;
+fn claim(rt: HostRuntime, name: &[u8]) -> Claimed {
+    match create(rt, name) {
+        Ok(file) => {
+            let mut file = file;
+            sign(rt, name, &mut file)
         }
-        if is_own(name) {
-            return Claimed::Ours;
+        Err(error) => {
+            if error.kind() != ErrorKind::AlreadyExists {
+                fail(rt, name, error);
+                return Claimed::Failed;
+            }
+            if is_own(rt, name) {
+                return Claimed::Ours;
+            }
+            Claimed::Theirs
         }
-        return Claimed::Theirs;
     }
-    if !write_mark(file) {
-        fail(name);
-        libc::close(file);
-        os::unlink(name);
-        return Claimed::Failed;
-    }
-    libc::close(file);
-    Claimed::Ours
 }
 
-fn is_empty(name: &[u8]) -> bool {
+fn sign(rt: HostRuntime, name: &[u8], file: &mut File) -> Claimed {
+    match write_mark(rt, file) {
+        Ok(()) => Claimed::Ours,
+        Err(error) => {
+            fail(rt, name, error);
+            remove(rt, name);
+            Claimed::Failed
+        }
+    }
+}
+
+fn is_empty(rt: HostRuntime, name: &[u8]) -> bool {
     let mut byte = [0u8; 1];
-    match read_mark(name, &mut byte) {
+    match read_mark(rt, name, &mut byte) {
         Mark::Text(n) => n == 0,
         Mark::Missing => false,
-        Mark::Unreadable => false,
+        Mark::Unreadable(_) => false,
     }
 }
 
-fn seconds() -> i64 {
-    let mut now = 0i64;
-    libc::time(&mut now)
+fn seconds(rt: HostRuntime) -> u64 {
+    match rt.since_1970() {
+        Ok(time) => time.as_secs(),
+        Err(_) => 0,
+    }
+}
+
+// Lets others go on before one looks again.
+pub(crate) fn pause(rt: HostRuntime) {
+    thread::sleep(&rt, Duration::from_millis(1));
 }
 
 // The maker of a lock writes into it at once, so that an empty one is given until the second new second begins.
-fn await_text(name: &[u8]) {
-    let mut last = seconds();
+fn await_text(rt: HostRuntime, name: &[u8]) {
+    let mut last = seconds(rt);
     let mut has_begun = false;
     let mut turns = u64::MAX;
     while 0 < turns {
-        if !is_empty(name) {
+        if !is_empty(rt, name) {
             return;
         }
-        let now = seconds();
+        let now = seconds(rt);
         if now != last {
             if has_begun {
                 return;
@@ -177,56 +209,58 @@ fn await_text(name: &[u8]) {
             has_begun = true;
             last = now;
         }
-        libc::sched_yield();
+        pause(rt);
         turns -= 1;
     }
 }
 
-fn refuse(path: &[u8], lock: &[u8], mark: &[u8]) {
-    io::write_all(STDERR_FILENO, b"cartlozenge: ");
-    io::write_all(STDERR_FILENO, path);
-    io::write_all(STDERR_FILENO, b": in use by process ");
-    io::write_all(STDERR_FILENO, words::word(mark, 0));
-    io::write_all(STDERR_FILENO, b"; if that is no cartlozenge, remove ");
-    io::write_all(STDERR_FILENO, lock);
-    io::write_all(STDERR_FILENO, b"\n");
+fn refuse(rt: HostRuntime, path: &[u8], lock: &[u8], mark: &[u8]) {
+    tell(rt, b"cartlozenge: ");
+    tell(rt, path);
+    tell(rt, b": in use by process ");
+    tell(rt, words::word(mark, 0));
+    tell(rt, b"; if that is no cartlozenge, remove ");
+    tell(rt, lock);
+    tell(rt, b"\n");
 }
 
 // Takes away what a process that runs no more may have left half-written.
-fn clear(path: &[u8], digits: &[u8]) {
+fn clear(rt: HostRuntime, path: &[u8], digits: &[u8]) {
     if words::number(digits) == words::NO_NUMBER {
         return;
     }
-    let mut space = io::buffer();
+    let mut space = [0u8; 4096];
     let n = name_beside(path, digits, b".new", &mut space);
-    os::unlink(up_to(&space, n));
+    remove(rt, up_to(&space, n));
 }
 
-fn clear_own(path: &[u8]) {
+fn clear_own(rt: HostRuntime, path: &[u8]) {
     let mut space = [0u8; 32];
-    let n = own_digits(&mut space);
-    clear(path, up_to(&space, n));
+    let n = own_digits(rt, &mut space);
+    clear(rt, path, up_to(&space, n));
 }
 
 // Puts an heir's claim in the place of the lock, unless the lock says by now what it did not say before.
-fn succeed(path: &[u8], lock: &[u8], seen: &[u8], heir: &[u8]) -> bool {
-    if !says(lock, seen) {
-        complain(path, b"another program is just taking it over");
-        os::unlink(heir);
+fn succeed(rt: HostRuntime, path: &[u8], lock: &[u8], seen: &[u8], heir: &[u8]) -> bool {
+    if !says(rt, lock, seen) {
+        complain(rt, path, b"another program is just taking it over");
+        remove(rt, heir);
         return false;
     }
-    if os::rename(heir, lock) < 0 {
-        fail(lock);
-        os::unlink(heir);
-        return false;
+    match rename(rt, heir, lock) {
+        Ok(()) => is_kept(rt, path, lock),
+        Err(error) => {
+            fail(rt, lock, error);
+            remove(rt, heir);
+            false
+        }
     }
-    is_kept(path, lock)
 }
 
 // A process that was very late may have lost its claim by the time that it is made.
-fn is_kept(path: &[u8], lock: &[u8]) -> bool {
-    if !is_own(lock) {
-        complain(path, b"another program took the lock");
+fn is_kept(rt: HostRuntime, path: &[u8], lock: &[u8]) -> bool {
+    if !is_own(rt, lock) {
+        complain(rt, path, b"another program took the lock");
         return false;
     }
     true
@@ -240,20 +274,27 @@ enum Heir {
 }
 
 // Makes our claim as heir of the process that left a mark, if that runs no more. `seen` is what the lock itself says.
-fn claim_after(path: &[u8], lock: &[u8], seen: &[u8], mark: &[u8], depth: u64) -> Heir {
-    if is_held(mark) {
-        refuse(path, lock, mark);
+fn claim_after(
+    rt: HostRuntime,
+    path: &[u8],
+    lock: &[u8],
+    seen: &[u8],
+    mark: &[u8],
+    depth: u64,
+) -> Heir {
+    if is_held(rt, mark) {
+        refuse(rt, path, lock, mark);
         return Heir::Refused;
     }
-    clear(path, words::word(mark, 0));
-    let mut space = io::buffer();
+    clear(rt, path, words::word(mark, 0));
+    let mut space = [0u8; 4096];
     let n = heir_name(path, depth, &mut space);
     let heir = up_to(&space, n);
-    match claim(heir) {
+    match claim(rt, heir) {
         Claimed::Failed => Heir::Refused,
         Claimed::Theirs => Heir::Left,
         Claimed::Ours => {
-            if !succeed(path, lock, seen, heir) {
+            if !succeed(rt, path, lock, seen, heir) {
                 return Heir::Refused;
             }
             Heir::Taken
@@ -262,42 +303,50 @@ fn claim_after(path: &[u8], lock: &[u8], seen: &[u8], mark: &[u8], depth: u64) -
 }
 
 // The mark of an heir; none where it has gone.
-fn heir_mark(path: &[u8], depth: u64, out: &mut [u8]) -> Mark {
-    let mut space = io::buffer();
+fn heir_mark(rt: HostRuntime, path: &[u8], depth: u64, out: &mut [u8]) -> Mark {
+    let mut space = [0u8; 4096];
     let n = heir_name(path, depth, &mut space);
     let heir = up_to(&space, n);
-    await_text(heir);
-    read_mark(heir, out)
+    await_text(rt, heir);
+    read_mark(rt, heir, out)
 }
 
-fn drop_heir(path: &[u8], depth: u64) {
-    let mut space = io::buffer();
+fn drop_heir(rt: HostRuntime, path: &[u8], depth: u64) {
+    let mut space = [0u8; 4096];
     let n = heir_name(path, depth, &mut space);
-    os::unlink(up_to(&space, n));
+    remove(rt, up_to(&space, n));
 }
 
 // Takes over from the process that left a mark. Where its heir was killed before it had the lock, that one's heir goes on.
-fn inherit(path: &[u8], lock: &[u8], seen: &[u8], mark: &[u8], depth: u64) -> bool {
-    match claim_after(path, lock, seen, mark, depth) {
+fn inherit(
+    rt: HostRuntime,
+    path: &[u8],
+    lock: &[u8],
+    seen: &[u8],
+    mark: &[u8],
+    depth: u64,
+) -> bool {
+    match claim_after(rt, path, lock, seen, mark, depth) {
         Heir::Taken => true,
         Heir::Refused => false,
         Heir::Left => {
             if depth >= 8 {
                 complain(
+                    rt,
                     lock,
                     b"too many locks are left over; remove it and the files .heir beside it",
                 );
                 return false;
             }
             let mut text = [0u8; 128];
-            let Mark::Text(n) = heir_mark(path, depth, &mut text) else {
-                complain(path, b"another program is just taking it over");
+            let Mark::Text(n) = heir_mark(rt, path, depth, &mut text) else {
+                complain(rt, path, b"another program is just taking it over");
                 return false;
             };
-            if !inherit(path, lock, seen, up_to(&text, n), depth + 1) {
+            if !inherit(rt, path, lock, seen, up_to(&text, n), depth + 1) {
                 return false;
             }
-            drop_heir(path, depth);
+            drop_heir(rt, path, depth);
             true
         }
     }
@@ -318,22 +367,22 @@ fn is_taken(is_ours: bool) -> Taking {
     }
 }
 
-fn attempt(path: &[u8], lock: &[u8]) -> Taking {
-    match claim(lock) {
+fn attempt(rt: HostRuntime, path: &[u8], lock: &[u8]) -> Taking {
+    match claim(rt, lock) {
         Claimed::Failed => Taking::Refused,
-        Claimed::Ours => is_taken(is_kept(path, lock)),
+        Claimed::Ours => is_taken(is_kept(rt, path, lock)),
         Claimed::Theirs => {
-            await_text(lock);
+            await_text(rt, lock);
             let mut text = [0u8; 128];
-            match read_mark(lock, &mut text) {
+            match read_mark(rt, lock, &mut text) {
                 Mark::Missing => Taking::Gone,
-                Mark::Unreadable => {
-                    fail(lock);
+                Mark::Unreadable(error) => {
+                    fail(rt, lock, error);
                     Taking::Refused
                 }
                 Mark::Text(n) => {
                     let seen = up_to(&text, n);
-                    is_taken(inherit(path, lock, seen, seen, 1))
+                    is_taken(inherit(rt, path, lock, seen, seen, 1))
                 }
             }
         }
@@ -341,40 +390,40 @@ fn attempt(path: &[u8], lock: &[u8]) -> Taking {
 }
 
 // Takes the state for this process, or says which process has it. Where a lock has gone between two looks, it is tried once more.
-pub fn take(path: &[u8]) -> bool {
-    clear_own(path);
-    let mut space = io::buffer();
+pub fn take(rt: HostRuntime, path: &[u8]) -> bool {
+    clear_own(rt, path);
+    let mut space = [0u8; 4096];
     let n = lock_name(path, &mut space);
     let lock = up_to(&space, n);
-    match attempt(path, lock) {
+    match attempt(rt, path, lock) {
         Taking::Ours => true,
         Taking::Refused => false,
-        Taking::Gone => take_again(path, lock),
+        Taking::Gone => take_again(rt, path, lock),
     }
 }
 
-fn take_again(path: &[u8], lock: &[u8]) -> bool {
-    match attempt(path, lock) {
+fn take_again(rt: HostRuntime, path: &[u8], lock: &[u8]) -> bool {
+    match attempt(rt, path, lock) {
         Taking::Ours => true,
         Taking::Refused => false,
         Taking::Gone => {
-            complain(path, b"another program is just starting on it");
+            complain(rt, path, b"another program is just starting on it");
             false
         }
     }
 }
 
 // Whether the state is still ours.
-pub(crate) fn is_ours(path: &[u8]) -> bool {
-    let mut space = io::buffer();
+pub(crate) fn is_ours(rt: HostRuntime, path: &[u8]) -> bool {
+    let mut space = [0u8; 4096];
     let n = lock_name(path, &mut space);
-    is_own(up_to(&space, n))
+    is_own(rt, up_to(&space, n))
 }
 
-pub fn give_back(path: &[u8]) {
-    if is_ours(path) {
-        let mut space = io::buffer();
+pub fn give_back(rt: HostRuntime, path: &[u8]) {
+    if is_ours(rt, path) {
+        let mut space = [0u8; 4096];
         let n = lock_name(path, &mut space);
-        os::unlink(up_to(&space, n));
+        remove(rt, up_to(&space, n));
     }
 }
