@@ -1,4 +1,4 @@
-//! Links the archive that `rt staticlib desk` writes.
+//! Links the archive that `tools/build archive` makes.
 
 use std::env;
 use std::path::PathBuf;
@@ -13,7 +13,7 @@ fn main() {
     println!("cargo:rerun-if-changed={}", archive.display());
     if !archive.exists() {
         panic!(
-            "{} is missing: run `rt staticlib desk` first",
+            "{} is missing: run `tools/build archive` first",
             archive.display()
         );
     }
