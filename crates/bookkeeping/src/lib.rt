@@ -1,2 +1,2 @@
-// No code: specs/ proves what every call on the ledger keeps.
+// No code: specs/ and proofs/ prove what every call on the ledger keeps.
 #![tactic(auto)]

@@ -72,7 +72,7 @@ module _ (m s : List ℕ) where
       needed (is_formed base s a) _ _ (λ f.
       chosen (ltb 0 (length (pending_of base s a))) _ _ _ _ (pending_lies a (state_length_lem s t) p.sender f) (message_lies b.0))))
 
--- an answer of standingAt says where the standing body lies
+-- an answer of standing_at says where the standing body lies
 pub standing_lies : {m s : List ℕ} {said : Said} → said ≡ standing_at base m s → Lies m s said (standing base m s)
 standing_lies {m} {s} e = rw e (lies m s)
 
