@@ -1,3 +1,6 @@
+pub mod Chain
 pub mod FieldLaws
+pub mod Held
 pub mod Laid
 pub mod Ranges
+pub mod Reading

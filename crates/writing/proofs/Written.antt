@@ -1,12 +1,12 @@
 -- Laws of what writers put: stretches one after another, the lengths of messages, and what their values keep to. Assumes nothing.
 use Prim.Native.Nat.{ℕ, zero, suc, ◌+◌, ◌-◌, ◌*◌, ◌/◌, ◌<◌, ◌≤◌}
 use mathlib.Core.Path.{◌≡◌, refl, sym, ◌∙◌}
-use mathlib.Core.Bool.{true, false≢true, and-eq-true_iff}
+use mathlib.Core.Bool.{Bool, true, false, not, false≢true, and-eq-true_iff}
 use mathlib.Core.List.{List, [], ◌∷◌, ◌++◌, append_assoc}
 use native.Mathlib.Omega.{arith}
 use lib.ListN.{length, take, drop, length-append, length-take, length-drop, drop_of_length-le}
 use lib.Seq.{drop-drop}
-use borrow.Author.Tests.{leb-true, le-leb, lt-leb}
+use borrow.Author.Tests.{not-true, not-false, leb-true, le-leb, lt-leb}
 use Rattle.octets.specs.Octets.{one, two, bytes, cut, put}
 use Rattle.octets.proofs.Laws.{put_append, length_bytes}
 use Rattle.wire.specs.Numbers.{is_recipient}
@@ -20,6 +20,13 @@ use Rattle.wire.specs.declared.kinds.Funding.{Funding}
 
 -- by these the length of bytes in a row is worked out
 pub ruleset lengths = (length-append, length_bytes)
+
+-- the answer of a test that code has turned round
+pub holds : {r t : Bool} → r ≡ t → not r ≡ false → t ≡ true
+holds {r = r} e h = sym e ∙ not-false r h
+
+pub fails : {r t : Bool} → r ≡ t → not r ≡ true → t ≡ false
+fails {r = r} e h = sym e ∙ not-true r h
 
 -- what is put right behind a stretch makes one stretch with it
 pub put_behind : {t u : List ℕ} {next : ℕ} (s : List ℕ) (at : ℕ) (a b : List ℕ) → t ≡ put s at a → u ≡ put t next b → next ≡ at + length a → u ≡ put s at (a ++ b)
