@@ -69,13 +69,25 @@ fn is_of_this_start(rt: HostRuntime, mark: &[u8]) -> bool {
     octets::same(marked, start)
 }
 
-// Whether the system shows a process. One that it does not show may run all the same, unless it shows the first, which always runs.
+// Whether the system shows a process. One that it does not show may run all the same, unless it shows the first, which always runs, and our own.
 fn is_shown(rt: HostRuntime, number: u64) -> bool {
     let mut space = [0u8; 32];
     let n = say_numbered(&mut space, 0, b"/proc/", number);
     match look(rt, up_to(&space, n)) {
         Ok(()) => true,
         Err(error) => error.kind() != ErrorKind::NotFound,
+    }
+}
+
+// Whether what the system shows are the processes that this one lives among: its own number stands there.
+fn is_own_proc(rt: HostRuntime) -> bool {
+    let mut space = [0u8; 32];
+    let n = own_digits(rt, &mut space);
+    let mut text = [0u8; 128];
+    match read_mark(rt, b"/proc/self/stat", &mut text) {
+        Mark::Text(length) => octets::same(words::word(up_to(&text, length), 0), up_to(&space, n)),
+        Mark::Missing => false,
+        Mark::Unreadable(_) => false,
     }
 }
 
@@ -91,7 +103,10 @@ fn runs(rt: HostRuntime, digits: &[u8]) -> bool {
     if is_shown(rt, number) {
         return true;
     }
-    !is_shown(rt, 1)
+    if !is_shown(rt, 1) {
+        return true;
+    }
+    !is_own_proc(rt)
 }
 
 // Whether the process that left a mark still runs.
