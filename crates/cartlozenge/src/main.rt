@@ -1,55 +1,52 @@
 // Cartlozenge: a settlement machine or the purchase ledger over a state file, and messages written and shown by hand.
 #![tactic(auto)]
 
+ghost use Rattle.std.specs.Prelude.{◌<◌, ◌^◌};
+
 mod session;
 
 use commands::usage::usage;
 use commands::{arguments, drafting, fresh};
+use keeping::complaints::Told;
+use keeping::files::Place;
 use lines::serving::Role;
-use text::page::up_to;
 
-fn serve_machine(rt: HostRuntime, path: &[u8]) {
-    let mut state = [0u8; records::state::LENGTH];
-    let mut saved = [0u8; records::state::LENGTH];
-    session::run(rt, Role::Machine, path, &mut state, &mut saved);
+fn serve<const LENGTH: usize>(role: Role, file: Place) -> Result<(), Told>
+    requires { LENGTH < 2 ^ 63 }
+{
+    let mut state = [0u8; LENGTH];
+    let mut saved = [0u8; LENGTH];
+    session::run(role, file, &mut state, &mut saved)
 }
 
-fn serve_ledger(rt: HostRuntime, path: &[u8]) {
-    let mut state = [0u8; ledger::state::LENGTH];
-    let mut saved = [0u8; ledger::state::LENGTH];
-    session::run(rt, Role::Ledger, path, &mut state, &mut saved);
+// `cartlozenge COMMAND STATE`.
+fn serve_named(rt: HostRuntime, command: &[u8]) -> Result<(), Told> {
+    let mut space = [0u8; 4096];
+    let path = arguments::read(rt, 2, &mut space);
+    let file = Place { rt, path };
+    match (command, arguments::count(rt), path.is_empty()) {
+        (b"machine", 3, false) => serve::<{ records::state::LENGTH }>(Role::Machine, file),
+        (b"ledger", 3, false) => serve::<{ ledger::state::LENGTH }>(Role::Ledger, file),
+        _ => {
+            usage(rt);
+            Ok(())
+        }
+    }
 }
 
-// `cartlozenge COMMAND STATE`, or a fresh state.
-fn start(rt: HostRuntime, command: &[u8]) {
-    if octets::same(command, b"fresh") {
-        return fresh::make(rt);
+fn start(rt: HostRuntime) -> Result<(), Told> {
+    let mut space = [0u8; 16];
+    match arguments::read(rt, 1, &mut space) {
+        b"write" | b"read" => {
+            drafting::draft(rt);
+            Ok(())
+        }
+        b"fresh" => fresh::make(rt),
+        command => serve_named(rt, command),
     }
-    let mut path = [0u8; 4096];
-    let n = arguments::read(rt, 2, &mut path);
-    if arguments::count(rt) != 3 {
-        return usage(rt);
-    }
-    if n == 0 {
-        return usage(rt);
-    }
-    if octets::same(command, b"machine") {
-        return serve_machine(rt, up_to(&path, n));
-    }
-    if octets::same(command, b"ledger") {
-        return serve_ledger(rt, up_to(&path, n));
-    }
-    usage(rt);
 }
 
+// The program has no exit status of its own: what went wrong was told.
 fn main(rt: HostRuntime) {
-    let mut command = [0u8; 16];
-    let n = arguments::read(rt, 1, &mut command);
-    if octets::same(up_to(&command, n), b"write") {
-        return drafting::draft(rt);
-    }
-    if octets::same(up_to(&command, n), b"read") {
-        return drafting::draft(rt);
-    }
-    start(rt, up_to(&command, n));
+    let _ = start(rt);
 }

@@ -1,137 +1,93 @@
 // Lines are read as they arrive, and answered.
 ghost use Rattle.std.specs.Prelude.{◌≡◌};
 ghost use Rattle.text.specs.Pages.{page};
-ghost use Rattle.text.specs.Arrivals.{held_in, Grows};
+ghost use Rattle.text.specs.Arrivals.{waiting, Grows};
 ghost use Rattle.lines.specs.Calls.{desk};
 ghost use Rattle.lines.specs.Serving.{turned};
 
-use keeping::complaints::complain;
-use keeping::input::Reading;
+use keeping::complaints::Told;
+use keeping::files::Place;
 use keeping::{guard, input, saving};
 use lines::files::is_file;
 use lines::serving;
 use lines::serving::Role;
-use text::arrivals::Held;
-use text::page::up_to;
-
-// What a turn leaves to the next, and whether there is one.
-#[derive(Drop)]
-struct Going {
-    held: Held,
-    goes_on: bool,
-}
-
-fn stop(held: Held) -> Going
-    ensures { result.held ≡ held }
-{
-    Going {
-        held,
-        goes_on: false,
-    }
-}
+use text::arrivals::Input;
+use text::page::Page;
 
 // The input has ended.
-fn finish(rt: HostRuntime, input: &[u8], held: Held) -> Going
-    ensures { result.held ≡ held }
-{
-    let mut out = [0u8; serving::LONGEST];
-    let n = serving::finish(input, held, &mut out);
-    let _ = rt.write_all(up_to(&out, n));
-    stop(held)
+fn finish(rt: HostRuntime, input: &Input) {
+    let mut space = [0u8; serving::LONGEST];
+    let mut page = Page::new(&mut space);
+    serving::finish(input, &mut page);
+    let _ = rt.write_all(page.text());
 }
 
-fn read_more(rt: HostRuntime, input: &mut [u8], held: Held) -> Going
-    ensures { Grows (held_in input.old held) (held_in input.new result.held) }
+// Answers whether there is another turn.
+fn read_more(rt: HostRuntime, input: &mut Input) -> Result<bool, Told>
+    ensures same_reference { input.new.buffer.ghost_name ≡ input.old.buffer.ghost_name }
+    ensures grows { Grows (waiting input.old) (waiting input.new) }
 {
-    let arrival = input::read_more(rt, input, held);
-    let later = arrival.held;
-    let reading = arrival.reading;
-    match reading {
-        Reading::Open => Going {
-            held: later,
-            goes_on: true,
-        },
-        Reading::Ended => finish(rt, input, later),
-        Reading::Failed => stop(later),
+    let is_open = input::read_more(rt, input)?;
+    if !is_open {
+        finish(rt, input);
     }
+    Ok(is_open)
 }
 
-// The state is that of the turn, and what is held is what it left, with what was read behind it.
+// A turn, and whether there is another. The state is that of the turn, and what is held is what it left, with what was read behind it.
+// No struct holds the state, what was saved and the rest: a method would read one field behind `self` while it lends another, as in
+// `saving::keep(self.state, self.saved)`, which the borrow checker does not cover.
 fn go_on(
-    rt: HostRuntime,
     role: Role,
-    path: &[u8],
+    file: Place,
     state: &mut [u8],
     saved: &mut [u8],
-    input: &mut [u8],
-    held: Held,
+    input: &mut Input,
     out: &mut [u8],
-) -> Going
-    ensures { (state.new ≡ (turned role (desk state.old (page out.old 0)) (held_in input.old held)).desk.state) × Grows (turned role (desk state.old (page out.old 0)) (held_in input.old held)).left (held_in input.new result.held) }
+) -> Result<bool, Told>
+    ensures same_reference { input.new.buffer.ghost_name ≡ input.old.buffer.ghost_name }
+    ensures turned { (state.new ≡ (turned role (desk state.old (page out.old 0)) (waiting input.old)).desk.state) × Grows (turned role (desk state.old (page out.old 0)) (waiting input.old)).left (waiting input.new) }
 {
-    let turn = serving::take_turn(role, state, input, held, out);
-    let left = turn.held;
-    if !saving::settle(rt, path, state, saved, up_to(out, turn.length)) {
-        return stop(left);
+    let mut answers = Page::new(out);
+    let waits = serving::take_turn(role, state, input, &mut answers);
+    saving::settle(file, state, saved, answers.text())?;
+    if waits {
+        return read_more(file.rt, input);
     }
-    if turn.waits {
-        return read_more(rt, input, left);
-    }
-    Going {
-        held: left,
-        goes_on: true,
-    }
+    Ok(true)
 }
 
-// A proved loop has to end, and nothing says that the input does. So turns are counted down, from a number that no run uses up.
-fn converse(rt: HostRuntime, role: Role, path: &[u8], state: &mut [u8], saved: &mut [u8]) {
+// A proved loop has to end, and nothing says that the input does. So turns are counted, up to a number that no run comes to.
+fn converse(role: Role, file: Place, state: &mut [u8], saved: &mut [u8]) -> Result<(), Told> {
     let mut space = [0u8; 65536];
-    let input: &mut [u8] = &mut space;
-    let mut page = [0u8; 65536];
-    let out: &mut [u8] = &mut page;
-    let mut held = Held {
-        filled: 0,
-        skips: false,
-    };
-    let mut turns = u64::MAX;
-    while 0 < turns {
-        let going = go_on(rt, role, path, state, saved, input, held, out);
-        if !going.goes_on {
-            return;
+    let mut input = Input::new(&mut space);
+    let mut out = [0u8; 65536];
+    for _ in 0..u64::MAX {
+        if !go_on(role, file, state, saved, &mut input, &mut out)? {
+            break;
         }
-        held = going.held;
-        turns -= 1;
     }
+    Ok(())
 }
 
-fn open(rt: HostRuntime, role: Role, path: &[u8], state: &mut [u8], saved: &mut [u8]) -> bool {
-    if !saving::open(rt, path, state) {
-        return false;
-    }
+fn open(role: Role, file: Place, state: &mut [u8], saved: &mut [u8]) -> Result<(), Told> {
+    saving::open(file, state)?;
     if !is_file(role, state) {
-        complain(
-            rt,
-            path,
-            b"refused 16: the state is ill-formed; it is left alone",
-        );
-        return false;
+        return Err(file.complain(b"refused 16: the state is ill-formed; it is left alone"));
     }
     saving::keep(state, saved);
-    true
+    Ok(())
 }
 
-fn serve_file(rt: HostRuntime, role: Role, path: &[u8], state: &mut [u8], saved: &mut [u8]) {
-    if !open(rt, role, path, state, saved) {
-        return;
-    }
-    converse(rt, role, path, state, saved);
+fn serve(role: Role, file: Place, state: &mut [u8], saved: &mut [u8]) -> Result<(), Told> {
+    open(role, file, state, saved)?;
+    converse(role, file, state, saved)
 }
 
 // Serves the state in a file until the input ends.
-pub(crate) fn run(rt: HostRuntime, role: Role, path: &[u8], state: &mut [u8], saved: &mut [u8]) {
-    if !guard::take(rt, path) {
-        return;
-    }
-    serve_file(rt, role, path, state, saved);
-    guard::give_back(rt, path);
+pub(crate) fn run(role: Role, file: Place, state: &mut [u8], saved: &mut [u8]) -> Result<(), Told> {
+    guard::take(file)?;
+    let served = serve(role, file, state, saved);
+    guard::give_back(file);
+    served
 }

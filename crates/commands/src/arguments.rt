@@ -3,31 +3,22 @@ ghost use Rattle.std.specs.Prelude.{◌≤◌, length};
 
 use std::env::FillError;
 use std::rt::Env;
+use text::page::up_to;
 
 fn is_there(rt: HostRuntime, i: usize) -> bool {
-    let mut start = [0u8; 1];
-    match rt.arg(i, &mut start) {
-        Ok(_) => true,
-        Err(FillError::TooLong) => true,
-        Err(FillError::NotPresent) => false,
-    }
+    !matches!(rt.arg(i, &mut [0u8; 1]), Err(FillError::NotPresent))
 }
 
 pub fn count(rt: HostRuntime) -> usize {
-    for i in 0..usize::MAX {
-        if !is_there(rt, i) {
-            return i;
-        }
-    }
-    usize::MAX
+    (0..usize::MAX)
+        .find(|i| !is_there(rt, *i))
+        .unwrap_or(usize::MAX)
 }
 
-// Puts a word into out. One that is not there or has no room is as one of no bytes.
-pub fn read(rt: HostRuntime, i: usize, out: &mut [u8]) -> usize
-    ensures { result ≤ length out.new }
+// A word, in the space that it is put into. One that is not there or has no room is as one of no bytes.
+pub fn read(rt: HostRuntime, i: usize, space: &mut [u8]) -> &[u8]
+    ensures { length result.now ≤ length space.old }
 {
-    match rt.arg(i, out) {
-        Ok(n) => n,
-        Err(_) => 0,
-    }
+    let n = rt.arg(i, space).unwrap_or(0);
+    up_to(space, n)
 }

@@ -1,37 +1,34 @@
 // A message written or shown by hand: the program's arguments are the line.
 use crate::arguments;
 use std::rt::Env;
-use text::page::{say, up_to};
+use text::page::{Page, up_to};
 
-// All arguments as one line, a blank behind each.
-fn join_arguments(rt: HostRuntime, line: &mut [u8]) -> usize {
-    let mut at = 0;
-    let mut i = 1;
-    let count = arguments::count(rt);
-    while i < count {
-        at = join_argument(rt, line, at, i);
-        i += 1;
-    }
-    at
-}
-
-fn join_argument(rt: HostRuntime, line: &mut [u8], at: usize, i: usize) -> usize {
+fn join_argument(rt: HostRuntime, i: usize, line: &mut Page) {
     let mut word = [0u8; 65536];
     match rt.arg(i, &mut word) {
         Ok(n) => {
-            let next = say(line, at, up_to(&word, n));
-            say(line, next, b" ")
+            line.say(up_to(&word, n));
+            line.say(b" ");
         }
         // One that is longer than any line: its first bytes make the line too long.
-        Err(_) => say(line, at, &word),
+        Err(_) => line.say(&word),
+    }
+}
+
+// All arguments as one line, a blank behind each.
+fn join_arguments(rt: HostRuntime, line: &mut Page) {
+    for i in 1..arguments::count(rt) {
+        join_argument(rt, i, line);
     }
 }
 
 pub fn draft(rt: HostRuntime) {
-    let mut line = [0u8; 65536];
-    let n = join_arguments(rt, &mut line);
-    let mut out = [0u8; 65536];
-    let end = drafts::draft_line(up_to(&line, n), &mut out, 0);
-    let last = say(&mut out, end, b"\n");
-    let _ = rt.write_all(up_to(&out, last));
+    let mut words = [0u8; 65536];
+    let mut line = Page::new(&mut words);
+    join_arguments(rt, &mut line);
+    let mut space = [0u8; 65536];
+    let mut page = Page::new(&mut space);
+    drafts::draft_line(line.text(), &mut page);
+    page.say(b"\n");
+    let _ = rt.write_all(page.text());
 }

@@ -1,80 +1,71 @@
 // A new state file. One that is there is never overwritten.
+ghost use Rattle.std.specs.Prelude.{◌<◌, ◌^◌};
+
 use crate::arguments;
 use crate::usage::usage;
-use keeping::files;
+use keeping::complaints::Told;
+use keeping::files::Place;
 use refusals::refused;
-use states::answers::FreshAnswer;
 use states::committee::Committee;
-use text::page::{say, up_to};
+use text::page::Page;
 use text::words;
 use wire::answers::Refusal;
 use wire::kinds::Machine;
 
+// A word that is no number is as one that no committee and no machine has.
 fn number_at(rt: HostRuntime, i: usize) -> u64 {
-    let mut word = [0u8; 32];
-    let n = arguments::read(rt, i, &mut word);
-    words::number(up_to(&word, n))
+    words::number(arguments::read(rt, i, &mut [0u8; 32]))
 }
 
-fn tell_refused(rt: HostRuntime, refusal: Refusal) {
-    let mut out = [0u8; 256];
-    let end = refused(&mut out, 0, refusal);
-    let last = say(&mut out, end, b"\n");
-    let _ = rt.write_all(up_to(&out, last));
+fn print_refused(rt: HostRuntime, refusal: Refusal) {
+    let mut space = [0u8; 256];
+    let mut page = Page::new(&mut space);
+    refused(&mut page, refusal);
+    page.say(b"\n");
+    let _ = rt.write_all(page.text());
 }
 
-fn keep(rt: HostRuntime, path: &[u8], state: &[u8]) {
-    if !files::make(rt, path, state) {
-        return;
+fn keep(place: Place, state: &[u8]) -> Result<(), Told> {
+    place.make(state)?;
+    place.sync_name()?;
+    let _ = place.rt.write_all(b"made ");
+    let _ = place.rt.write_all(place.path);
+    let _ = place.rt.write_all(b"\n");
+    Ok(())
+}
+
+// Makes a state as `fill` does, and keeps it in the file that the argument i names.
+fn make_state<const LENGTH: usize, Fill: FnOnce(&mut [u8]) -> Result<(), Refusal>>(
+    rt: HostRuntime,
+    i: usize,
+    fill: Fill,
+) -> Result<(), Told>
+    requires fits { LENGTH < 2 ^ 63 }
+    requires callable { Fill.IsAlwaysCallable fill }
+{
+    let mut state = [0u8; LENGTH];
+    if let Err(refusal) = fill(&mut state) {
+        print_refused(rt, refusal);
+        return Ok(());
     }
-    if !files::sync_name(rt, path) {
-        return;
-    }
-    let _ = rt.write_all(b"made ");
-    let _ = rt.write_all(path);
-    let _ = rt.write_all(b"\n");
+    let mut space = [0u8; 4096];
+    let path = arguments::read(rt, i, &mut space);
+    keep(Place { rt, path }, &state)
 }
 
-fn keep_made(rt: HostRuntime, answer: FreshAnswer, i: usize, state: &[u8]) {
-    match answer {
-        FreshAnswer::Refused(refusal) => tell_refused(rt, refusal),
-        FreshAnswer::Made => {
-            let mut path = [0u8; 4096];
-            let n = arguments::read(rt, i, &mut path);
-            keep(rt, up_to(&path, n), state);
+pub fn make(rt: HostRuntime) -> Result<(), Told> {
+    let mut space = [0u8; 16];
+    match (arguments::read(rt, 2, &mut space), arguments::count(rt)) {
+        (b"machine", 6) => make_state::<{ records::state::LENGTH }, _>(rt, 5, |state| {
+            let own = Machine(number_at(rt, 4));
+            machine::make_fresh(state, Committee::of(number_at(rt, 3)), own)
+        }),
+        (b"ledger", 5) => make_state::<{ ledger::state::LENGTH }, _>(rt, 4, |state| {
+            ledger::make_fresh(state, Committee::of(number_at(rt, 3)))
+        }),
+        _ => {
+            usage(rt);
+            Ok(())
         }
     }
-}
-
-fn make_machine(rt: HostRuntime) {
-    let mut state = [0u8; records::state::LENGTH];
-    let answer = machine::make_fresh(
-        &mut state,
-        Committee::of(number_at(rt, 3)),
-        Machine(number_at(rt, 4)),
-    );
-    keep_made(rt, answer, 5, &state);
-}
-
-fn make_ledger(rt: HostRuntime) {
-    let mut state = [0u8; ledger::state::LENGTH];
-    let answer = ledger::make_fresh(&mut state, Committee::of(number_at(rt, 3)));
-    keep_made(rt, answer, 4, &state);
-}
-
-pub fn make(rt: HostRuntime) {
-    let mut what = [0u8; 16];
-    let n = arguments::read(rt, 2, &mut what);
-    let count = arguments::count(rt);
-    if octets::same(up_to(&what, n), b"machine") {
-        if count == 6 {
-            return make_machine(rt);
-        }
-    }
-    if octets::same(up_to(&what, n), b"ledger") {
-        if count == 5 {
-            return make_ledger(rt);
-        }
-    }
-    usage(rt);
 }

@@ -2,6 +2,7 @@
 // its caller. docs/INTERFACE.md has the layout of the numbers. A library exports nothing: `desk_c` makes the archive for hosts.
 #![tactic(auto)]
 
+mod arrays;
 pub mod ledgers;
 pub mod machines;
 mod numbers;

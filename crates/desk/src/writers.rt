@@ -6,6 +6,7 @@ ghost use Rattle.desk.specs.Layout.{left, writing, pays, funds};
 use crate::numbers;
 use wire::kinds::{Account, Funding, FundingIndex, Payment, Sequence};
 
+// C hands a payment over as its five numbers.
 fn payment_of(sender: u64, kind: u64, recipient: u64, amount: u64, sequence: u64) -> Payment
     ensures { result ≡ pays sender kind recipient amount sequence }
 {
@@ -18,8 +19,7 @@ fn payment_of(sender: u64, kind: u64, recipient: u64, amount: u64, sequence: u64
     }
 }
 
-#[unsafe(no_mangle)]
-pub extern "C" fn cartlozenge_write_body(
+pub fn cartlozenge_write_body(
     out: &mut [u8],
     sender: u64,
     kind: u64,
@@ -31,11 +31,10 @@ pub extern "C" fn cartlozenge_write_body(
     ensures { left result out.new ≡ writing (write_body out.old (pays sender kind recipient amount sequence) note.now) }
 {
     let payment = payment_of(sender, kind, recipient, amount, sequence);
-    numbers::of_written(writing::write_body(out, payment, note))
+    numbers::of(writing::write_body(out, payment, note))
 }
 
-#[unsafe(no_mangle)]
-pub extern "C" fn cartlozenge_write_order(
+pub fn cartlozenge_write_order(
     out: &mut [u8],
     sender: u64,
     kind: u64,
@@ -48,16 +47,10 @@ pub extern "C" fn cartlozenge_write_order(
     ensures { left result out.new ≡ writing (write_order out.old (pays sender kind recipient amount sequence) note.now signature.now) }
 {
     let payment = payment_of(sender, kind, recipient, amount, sequence);
-    numbers::of_written(writing::write_order(out, payment, note, signature))
+    numbers::of(writing::write_order(out, payment, note, signature))
 }
 
-#[unsafe(no_mangle)]
-pub extern "C" fn cartlozenge_write_funding_order(
-    out: &mut [u8],
-    index: u64,
-    account: u64,
-    amount: u64,
-) -> u64
+pub fn cartlozenge_write_funding_order(out: &mut [u8], index: u64, account: u64, amount: u64) -> u64
     ensures { left result out.new ≡ writing (write_funding out.old (funds index account amount)) }
 {
     let order = Funding {
@@ -65,17 +58,11 @@ pub extern "C" fn cartlozenge_write_funding_order(
         account: Account(account),
         amount,
     };
-    numbers::of_written(writing::write_funding(out, order))
+    numbers::of(writing::write_funding(out, order))
 }
 
-#[unsafe(no_mangle)]
-pub extern "C" fn cartlozenge_write_certificate(
-    f: u64,
-    out: &mut [u8],
-    body: &[u8],
-    votes: &[u8],
-) -> u64
+pub fn cartlozenge_write_certificate(f: u64, out: &mut [u8], body: &[u8], votes: &[u8]) -> u64
     ensures { left result out.new ≡ writing (write_certificate f out.old body.now votes.now) }
 {
-    numbers::of_written(writing::write_certificate(f, out, body, votes))
+    numbers::of(writing::write_certificate(f, out, body, votes))
 }

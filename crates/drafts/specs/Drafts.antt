@@ -1,12 +1,12 @@
 -- What is printed where an operator writes a message by hand, or has one shown.
-use Rattle.std.specs.Prelude.{ℕ, ◌||◌, cond, List, replicate, eqb}
+use Rattle.std.specs.Prelude.{ℕ, ◌||◌, cond, List, replicate, eqb, Result, Ok, Err}
 use Rattle.octets.specs.Octets.{one, number, same}
 use Rattle.wire.specs.Numbers.{is_faults}
 use Rattle.octets.specs.Tests.{need}
 use Rattle.wire.specs.Messages.{inside}
 use Rattle.wire.specs.Votes.{signers_in}
 use Rattle.wire.specs.Readers.{read_body, read_order, read_certificate, read_funding}
-use Rattle.wire.specs.Writers.{write_body, write_order, write_certificate, write_funding}
+use Rattle.wire.specs.Writers.{written, write_body, write_order, write_certificate, write_funding}
 use Rattle.wire.specs.declared.kinds.Payment.{Payment}
 use Rattle.wire.specs.declared.kinds.Funding.{Funding}
 use Rattle.text.specs.Ascii.{ascii}
@@ -14,6 +14,7 @@ use Rattle.text.specs.Words.{word_at, has_words, number_of, is_bytes, bytes_of, 
 use Rattle.refusals.specs.Refusals.{refused_text, fault_text}
 use Rattle.papers.specs.Papers.{written_text, body_text, order_read_text, certificate_read_text, funding_read_text}
 use Rattle.refusals.specs.declared.Fault.{Fault}
+use Rattle.drafts.specs.declared.writers.Draft.{Draft}
 
 -- what a message says. It is told by its first tag; a certificate is read for f
 unfoldable pub shown_text : ℕ → List ℕ → List ℕ
@@ -49,6 +50,11 @@ payment_of line = record {
   amount = number_of (word_at 5 line);
   sequence = record { 0 = number_of (word_at 6 line) };
 }
+
+-- what is printed of a message that a line asks for: what its writer answers, or what is wrong with the line
+abbrev pub drafted : Result Draft Fault → List ℕ
+drafted (Ok draft) = written_text (written draft.answer draft.message)
+drafted (Err fault) = fault_text fault
 
 -- a blank page for the longest message
 abbrev pub blank : List ℕ

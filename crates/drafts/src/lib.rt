@@ -2,27 +2,26 @@
 #![tactic(auto)]
 
 ghost use Rattle.std.specs.Prelude.{◌≡◌};
-ghost use Rattle.text.specs.Pages.{page, said};
+ghost use Rattle.text.specs.Pages.{Says};
 ghost use Rattle.drafts.specs.Drafts as drafts;
 
 use refusals::{Fault, unread};
-use text::words;
+use text::line::Line;
+use text::page::Page;
 
 mod showing;
 mod writers;
 
-pub fn draft_line(line: &[u8], out: &mut [u8], at: usize) -> usize
-    ensures { page out.new result ≡ said (page out.old at) (drafts.draft_text line.now) }
+#[tactic(auto, using(text::proofs::Patterns::patterns), unfolding(crate::specs::Drafts::draft_text, text::specs::Ascii::ascii))]
+pub fn draft_line(line: &[u8], page: &mut Page)
+    ensures { Says page.old page.new (drafts.draft_text line.now) }
 {
-    if line.len() > words::LINE {
-        return unread(out, at, Fault::TooLong);
+    let Some(line) = Line::new(line) else {
+        return unread(page, Fault::TooLong);
+    };
+    match line.word(0) {
+        b"read" => showing::read_line(&line, page),
+        b"write" => writers::write_line(&line, page),
+        _ => unread(page, Fault::NoCall),
     }
-    let name = words::word(line, 0);
-    if octets::same(name, b"read") {
-        return showing::read_line(line, out, at);
-    }
-    if octets::same(name, b"write") {
-        return writers::write_line(line, out, at);
-    }
-    unread(out, at, Fault::NoCall)
 }

@@ -1,159 +1,137 @@
 // Messages from the words of a line.
-ghost use Rattle.std.specs.Prelude.{◌≡◌, true};
-ghost use Rattle.text.specs.Pages.{page, said};
-ghost use Rattle.text.specs.Words.{word_at, number_of, is_line};
+ghost use Rattle.std.specs.Prelude.{◌≡◌};
+ghost use Rattle.text.specs.Pages.{Says};
 ghost use Rattle.drafts.specs.Drafts as drafts;
 
 use refusals::{Fault, unread};
+use text::line::Line;
+use text::page::Page;
 use text::words;
+use wire::answers::Refusal;
 use wire::kinds::{Account, Funding, FundingIndex, Payment, Sequence};
 
 // The longest message.
 const MESSAGE: usize = 1148;
 
-fn number_at(line: &[u8], k: usize) -> u64
-    ensures { result ≡ number_of (word_at k line.now) }
-{
-    words::number(words::word(line, k))
+// What a writer answers, and the bytes that it wrote into.
+#[derive(Drop)]
+struct Draft {
+    answer: Result<usize, Refusal>,
+    message: [u8; MESSAGE],
 }
 
+// A payment's kind, which is a number; any other word is a kind that there is not, and the writer refuses it.
+#[tactic(auto, using(text::proofs::Patterns::patterns), unfolding(crate::specs::Drafts::kind_of, text::specs::Ascii::ascii))]
 fn kind(word: &[u8]) -> u64
     ensures { result ≡ drafts.kind_of word.now }
 {
-    if octets::same(word, b"account") {
-        return 0;
+    match word {
+        b"account" => 0,
+        b"ledger" => 1,
+        _ => 2,
     }
-    if octets::same(word, b"ledger") {
-        return 1;
-    }
-    2
 }
 
-fn payment(line: &[u8]) -> Payment
+#[tactic(auto, unfolding(crate::specs::Drafts::payment_of))]
+fn payment(line: &Line) -> Payment
     ensures { result ≡ drafts.payment_of line.now }
 {
     Payment {
-        sender: Account(number_at(line, 2)),
-        kind: kind(words::word(line, 3)),
-        recipient: number_at(line, 4),
-        amount: number_at(line, 5),
-        sequence: Sequence(number_at(line, 6)),
+        sender: Account(line.number(2)),
+        kind: kind(line.word(3)),
+        recipient: line.number(4),
+        amount: line.number(5),
+        sequence: Sequence(line.number(6)),
     }
 }
 
-fn write_body(line: &[u8], out: &mut [u8], at: usize) -> usize
-    requires { is_line line.now ≡ true }
-    ensures { page out.new result ≡ said (page out.old at) (drafts.body_draft line.now) }
-{
-    if !words::has_words(line, 8) {
-        return unread(out, at, Fault::WordCount);
-    }
-    let word = words::word(line, 7);
-    if !words::is_bytes(word) {
-        return unread(out, at, Fault::NotHexadecimal);
-    }
-    let mut note = [0u8; words::BYTES];
-    let n = words::read_bytes(&mut note, word);
-    let mut message = [0u8; MESSAGE];
-    let answer = writing::write_body(&mut message, payment(line), octets::cut(&note, 0, n));
-    papers::wrote(out, at, answer, &message)
-}
-
-fn write_order(line: &[u8], out: &mut [u8], at: usize) -> usize
-    requires { is_line line.now ≡ true }
-    ensures { page out.new result ≡ said (page out.old at) (drafts.order_draft line.now) }
-{
-    if !words::has_words(line, 9) {
-        return unread(out, at, Fault::WordCount);
-    }
-    let first = words::word(line, 7);
-    if !words::is_bytes(first) {
-        return unread(out, at, Fault::NotHexadecimal);
-    }
-    let second = words::word(line, 8);
-    if !words::is_bytes(second) {
-        return unread(out, at, Fault::NotHexadecimal);
-    }
-    let mut note = [0u8; words::BYTES];
-    let n = words::read_bytes(&mut note, first);
-    let mut signature = [0u8; words::BYTES];
-    let signed = words::read_bytes(&mut signature, second);
-    let mut message = [0u8; MESSAGE];
-    let answer = writing::write_order(
-        &mut message,
-        payment(line),
-        octets::cut(&note, 0, n),
-        octets::cut(&signature, 0, signed),
-    );
-    papers::wrote(out, at, answer, &message)
-}
-
-fn write_certificate(line: &[u8], out: &mut [u8], at: usize) -> usize
-    requires { is_line line.now ≡ true }
-    ensures { page out.new result ≡ said (page out.old at) (drafts.certificate_draft line.now) }
-{
-    if !words::has_words(line, 5) {
-        return unread(out, at, Fault::WordCount);
-    }
-    let first = words::word(line, 3);
-    if !words::is_bytes(first) {
-        return unread(out, at, Fault::NotHexadecimal);
-    }
-    let second = words::word(line, 4);
-    if !words::is_bytes(second) {
-        return unread(out, at, Fault::NotHexadecimal);
-    }
-    let mut body = [0u8; words::BYTES];
-    let n = words::read_bytes(&mut body, first);
-    let mut run = [0u8; words::BYTES];
-    let votes = words::read_bytes(&mut run, second);
-    let mut message = [0u8; MESSAGE];
-    let answer = writing::write_certificate(
-        number_at(line, 2),
-        &mut message,
-        octets::cut(&body, 0, n),
-        octets::cut(&run, 0, votes),
-    );
-    papers::wrote(out, at, answer, &message)
-}
-
-fn funding(line: &[u8]) -> Funding
+#[tactic(auto, unfolding(crate::specs::Drafts::funding_of))]
+fn funding(line: &Line) -> Funding
     ensures { result ≡ drafts.funding_of line.now }
 {
     Funding {
-        index: FundingIndex(number_at(line, 2)),
-        account: Account(number_at(line, 3)),
-        amount: number_at(line, 4),
+        index: FundingIndex(line.number(2)),
+        account: Account(line.number(3)),
+        amount: line.number(4),
     }
 }
 
-fn write_funding(line: &[u8], out: &mut [u8], at: usize) -> usize
-    ensures { page out.new result ≡ said (page out.old at) (drafts.funding_draft line.now) }
+#[tactic(auto, unfolding(crate::specs::Drafts::body_draft))]
+fn write_body(line: &Line) -> Result<Draft, Fault>
+    ensures { drafts.drafted result ≡ drafts.body_draft line.now }
 {
-    if !words::has_words(line, 5) {
-        return unread(out, at, Fault::WordCount);
+    if !line.has_words(8) {
+        return Err(Fault::WordCount);
     }
-    let mut message = [0u8; MESSAGE];
+    let mut space = [0; words::BYTES];
+    let note = line.bytes(7, &mut space).ok_or(Fault::NotHexadecimal)?;
+    let mut message = [0; MESSAGE];
+    let answer = writing::write_body(&mut message, payment(line), note);
+    Ok(Draft { answer, message })
+}
+
+#[tactic(auto, unfolding(crate::specs::Drafts::order_draft))]
+fn write_order(line: &Line) -> Result<Draft, Fault>
+    ensures { drafts.drafted result ≡ drafts.order_draft line.now }
+{
+    if !line.has_words(9) {
+        return Err(Fault::WordCount);
+    }
+    let mut space = [0; words::BYTES];
+    let note = line.bytes(7, &mut space).ok_or(Fault::NotHexadecimal)?;
+    let mut signed = [0; words::BYTES];
+    let signature = line.bytes(8, &mut signed).ok_or(Fault::NotHexadecimal)?;
+    let mut message = [0; MESSAGE];
+    let answer = writing::write_order(&mut message, payment(line), note, signature);
+    Ok(Draft { answer, message })
+}
+
+#[tactic(auto, unfolding(crate::specs::Drafts::certificate_draft))]
+fn write_certificate(line: &Line) -> Result<Draft, Fault>
+    ensures { drafts.drafted result ≡ drafts.certificate_draft line.now }
+{
+    if !line.has_words(5) {
+        return Err(Fault::WordCount);
+    }
+    let mut space = [0; words::BYTES];
+    let body = line.bytes(3, &mut space).ok_or(Fault::NotHexadecimal)?;
+    let mut voted = [0; words::BYTES];
+    let run = line.bytes(4, &mut voted).ok_or(Fault::NotHexadecimal)?;
+    let mut message = [0; MESSAGE];
+    let answer = writing::write_certificate(line.number(2), &mut message, body, run);
+    Ok(Draft { answer, message })
+}
+
+#[tactic(auto, unfolding(crate::specs::Drafts::funding_draft))]
+fn write_funding(line: &Line) -> Result<Draft, Fault>
+    ensures { drafts.drafted result ≡ drafts.funding_draft line.now }
+{
+    if !line.has_words(5) {
+        return Err(Fault::WordCount);
+    }
+    let mut message = [0; MESSAGE];
     let answer = writing::write_funding(&mut message, funding(line));
-    papers::wrote(out, at, answer, &message)
+    Ok(Draft { answer, message })
 }
 
-pub(crate) fn write_line(line: &[u8], out: &mut [u8], at: usize) -> usize
-    requires { is_line line.now ≡ true }
-    ensures { page out.new result ≡ said (page out.old at) (drafts.write_text line.now) }
+#[tactic(auto, using(text::proofs::Patterns::patterns), unfolding(crate::specs::Drafts::write_text, text::specs::Ascii::ascii))]
+fn written(line: &Line) -> Result<Draft, Fault>
+    ensures { drafts.drafted result ≡ drafts.write_text line.now }
 {
-    let name = words::word(line, 1);
-    if octets::same(name, b"body") {
-        return write_body(line, out, at);
+    match line.word(1) {
+        b"body" => write_body(line),
+        b"order" => write_order(line),
+        b"certificate" => write_certificate(line),
+        b"funding" => write_funding(line),
+        _ => Err(Fault::NoCall),
     }
-    if octets::same(name, b"order") {
-        return write_order(line, out, at);
+}
+
+pub(crate) fn write_line(line: &Line, page: &mut Page)
+    ensures { Says page.old page.new (drafts.write_text line.now) }
+{
+    match written(line) {
+        Ok(draft) => papers::wrote(page, draft.answer, &draft.message),
+        Err(fault) => unread(page, fault),
     }
-    if octets::same(name, b"certificate") {
-        return write_certificate(line, out, at);
-    }
-    if octets::same(name, b"funding") {
-        return write_funding(line, out, at);
-    }
-    unread(out, at, Fault::NoCall)
 }

@@ -1,11 +1,11 @@
 // The calls of the table, each with its answer. The machine is number 0 with f = 1; all verdicts are good.
-ghost use Rattle.std.specs.Prelude.{◌≤◌};
+ghost use Rattle.std.specs.Prelude.{◌≤◌, length};
 
 use crate::{papers, say};
 use messages::{body, funding};
-use records::answers::{AccountAnswer, ConfirmAnswer, CreditAnswer, OrderAnswer};
+use records::answers::{Confirmation, Vote};
+use records::state;
 use states::committee::Committee;
-use wire::answers::{BodyAnswer, FundingAnswer};
 use wire::kinds::{Account, Funding, FundingIndex, Machine, Payment, Sequence};
 
 pub(crate) fn write_body(rt: HostRuntime, before: &[u8], amount: u64) {
@@ -22,17 +22,20 @@ pub(crate) fn write_body(rt: HostRuntime, before: &[u8], amount: u64) {
     say::hex(rt, &out);
 }
 
+// A body that is refused has no note.
 pub(crate) fn read_body(rt: HostRuntime, before: &[u8], amount: u64) {
-    let message = papers::body(amount, 0);
-    let read = body::read_body(&message);
-    let answer = read.answer;
-    let note = read.note;
     say::text(rt, before);
-    match answer {
-        BodyAnswer::Pays(payment) => say::payment(rt, payment),
-        BodyAnswer::Refused(refusal) => say::refused(rt, refusal),
-    }
-    say::number(rt, b", bytes of note ", note.length as u64);
+    let length = match body::read_body(&papers::body(amount, 0)) {
+        Ok(body) => {
+            say::payment(rt, body.payment);
+            body.note.length
+        }
+        Err(refusal) => {
+            say::refused(rt, refusal);
+            0
+        }
+    };
+    say::number(rt, b", bytes of note ", length);
 }
 
 pub(crate) fn write_funding(rt: HostRuntime, before: &[u8], amount: u64) {
@@ -48,76 +51,73 @@ pub(crate) fn write_funding(rt: HostRuntime, before: &[u8], amount: u64) {
 }
 
 pub(crate) fn read_funding(rt: HostRuntime, before: &[u8], amount: u64) {
-    let message = papers::funding(amount);
     say::text(rt, before);
-    match funding::read_funding(&message) {
-        FundingAnswer::Funds(order) => say::funding(rt, order),
-        FundingAnswer::Refused(refusal) => say::refused(rt, refusal),
+    match funding::read_funding(&papers::funding(amount)) {
+        Ok(order) => say::funding(rt, order),
+        Err(refusal) => say::refused(rt, refusal),
     }
 }
 
-pub(crate) fn fresh() -> [u8; 4616] {
-    let mut state = [170u8; 4616];
-    machine::make_fresh(&mut state, Committee::of(1), Machine(0));
-    state
-}
-
-pub(crate) fn fund(rt: HostRuntime, before: &[u8], state: &mut [u8], amount: u64) {
-    let message = papers::funding(amount);
-    say::text(rt, before);
-    match machine::handle_funding(state, &message, b"\x01") {
-        CreditAnswer::Credited => say::text(rt, b"credited"),
-        CreditAnswer::Refused(refusal) => say::refused(rt, refusal),
-    }
-}
-
-pub(crate) fn order(rt: HostRuntime, before: &[u8], state: &mut [u8], amount: u64, sequence: u8) {
-    let message = papers::order(amount, sequence);
-    say::text(rt, before);
-    match machine::handle_order(state, &message, b"\x01") {
-        OrderAnswer::VoteNew => say::text(rt, b"vote, new"),
-        OrderAnswer::VoteRepeated => say::text(rt, b"vote, repeated"),
-        OrderAnswer::Refused(refusal) => say::refused(rt, refusal),
-    }
-}
-
-// With the first few of the votes of machines 0, 1, `third` and 3.
-pub(crate) fn certificate(
+// A machine that some rows call one after another.
+#[derive(Drop)]
+pub(crate) struct Desk {
     rt: HostRuntime,
-    before: &[u8],
-    state: &mut [u8],
-    amount: u64,
-    sequence: u8,
-    third: u8,
-    votes: usize,
-)
-    requires { votes ≤ 4 }
-{
-    let message = papers::certificate(amount, sequence, third);
-    let verdicts = [1u8; 4];
-    say::text(rt, before);
-    match machine::handle_certificate(
-        state,
-        octets::cut(&message, 0, 28 + 68 * votes),
-        octets::cut(&verdicts, 0, votes),
-    ) {
-        ConfirmAnswer::Confirmed(n) => say::number(rt, b"confirmed, votes ", n),
-        ConfirmAnswer::Already(n) => say::number(rt, b"already, votes ", n),
-        ConfirmAnswer::Refused(refusal) => say::refused(rt, refusal),
-    }
+    state: [u8; state::LENGTH],
 }
 
-pub(crate) fn account(rt: HostRuntime, before: &[u8], state: &[u8], number: u64) {
-    say::text(rt, before);
-    match machine::read_account(state, Account(number)) {
-        AccountAnswer::Shows(reading) => say::reading(rt, reading),
-        AccountAnswer::Refused(refusal) => say::refused(rt, refusal),
+impl Desk {
+    pub(crate) fn fresh(rt: HostRuntime) -> Desk {
+        let mut state = [170u8; state::LENGTH];
+        let _ = machine::make_fresh(&mut state, Committee::of(1), Machine(0));
+        Desk { rt, state }
     }
-}
 
-// The header, and the records of accounts 2 and 7 where they stand.
-pub(crate) fn bytes(rt: HostRuntime, state: &[u8; 4616]) {
-    say::hex(rt, octets::cut(state, 0, 8));
-    say::hex(rt, octets::cut(state, 152, 72));
-    say::hex(rt, octets::cut(state, 512, 72));
+    pub(crate) fn fund(&mut self, before: &[u8], amount: u64) {
+        say::text(self.rt, before);
+        match machine::handle_funding(&mut self.state, &papers::funding(amount), b"\x01") {
+            Ok(()) => say::text(self.rt, b"credited"),
+            Err(refusal) => say::refused(self.rt, refusal),
+        }
+    }
+
+    pub(crate) fn order(&mut self, before: &[u8], amount: u64, sequence: u8) {
+        say::text(self.rt, before);
+        match machine::handle_order(&mut self.state, &papers::order(amount, sequence), b"\x01") {
+            Ok(Vote::New) => say::text(self.rt, b"vote, new"),
+            Ok(Vote::Repeated) => say::text(self.rt, b"vote, repeated"),
+            Err(refusal) => say::refused(self.rt, refusal),
+        }
+    }
+
+    pub(crate) fn certificate(&mut self, before: &[u8], amount: u64, sequence: u8, voters: &[u8])
+        requires { length voters.now ≤ 4 }
+    {
+        let message = papers::certificate(amount, sequence, voters);
+        let n = voters.len();
+        say::text(self.rt, before);
+        match machine::handle_certificate(
+            &mut self.state,
+            &message[..28 + 68 * n],
+            &[1u8; 4][..n],
+        ) {
+            Ok(Confirmation::Confirmed(n)) => say::number(self.rt, b"confirmed, votes ", n),
+            Ok(Confirmation::Already(n)) => say::number(self.rt, b"already, votes ", n),
+            Err(refusal) => say::refused(self.rt, refusal),
+        }
+    }
+
+    pub(crate) fn account(&self, before: &[u8], number: u64) {
+        say::text(self.rt, before);
+        match machine::read_account(&self.state, Account(number)) {
+            Ok(reading) => say::reading(self.rt, reading),
+            Err(refusal) => say::refused(self.rt, refusal),
+        }
+    }
+
+    // The header, and the records of accounts 2 and 7 where they stand.
+    pub(crate) fn bytes(&self) {
+        say::hex(self.rt, &self.state[..8]);
+        say::hex(self.rt, &self.state[152..224]);
+        say::hex(self.rt, &self.state[512..584]);
+    }
 }

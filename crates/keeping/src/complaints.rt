@@ -1,55 +1,55 @@
 // What goes wrong with files is told on standard error. The program has no exit status of its own.
+use crate::files::Place;
 use std::fmt;
 use std::fmt::Write;
 use std::io::Error;
-use text::page::{say, up_to};
+use text::page::Page;
+
+// What went wrong was told on standard error.
+#[derive(Clone, Copy, Debug)]
+pub struct Told;
 
 // Where this cannot be written, nobody is left to be told so.
-pub(crate) fn tell(rt: HostRuntime, words: &[u8]) {
-    let _ = rt.stderr().write_all(words);
-}
-
-pub fn complain(rt: HostRuntime, path: &[u8], why: &[u8]) {
-    tell(rt, b"cartlozenge: ");
-    tell(rt, path);
-    tell(rt, b": ");
-    tell(rt, why);
-    tell(rt, b"\n");
+pub(crate) fn tell(rt: HostRuntime, parts: &[&[u8]]) -> Told {
+    for part in parts {
+        let _ = rt.stderr().write_all(part);
+    }
+    Told
 }
 
 // What an error says of itself. Longer words are cut off.
 #[derive(Drop)]
-struct Words {
-    bytes: [u8; 256],
-    length: usize,
+struct Words<'a> {
+    page: Page<'a>,
 }
 
-impl Write for Words {
+impl Write for Words<'_> {
     fn write_str(&mut self, text: &str) -> fmt::Result {
-        self.length = say(&mut self.bytes, self.length, text.as_bytes());
+        self.page.say(text.as_bytes());
         Ok(())
     }
 }
 
-// Where the number of the system's error begins that stands behind its words, as in `File exists (os error 17)`.
-fn number_start(words: &[u8]) -> usize {
-    let mut i = words.len();
-    while 0 < i {
-        i -= 1;
-        if words[i] == b'(' {
-            return i.saturating_sub(1);
-        }
+// The words without the number of the system's error behind them, as in `File exists (os error 17)`.
+fn without_number(words: &[u8]) -> &[u8] {
+    match words.iter().rposition(|byte| *byte == b'(') {
+        Some(bracket) => &words[..bracket.saturating_sub(1)],
+        None => words,
     }
-    words.len()
 }
 
-// With the system's own word for it.
-pub(crate) fn fail(rt: HostRuntime, path: &[u8], error: Error) {
-    let mut words = Words {
-        bytes: [0u8; 256],
-        length: 0,
-    };
-    let _ = write!(words, "{error}");
-    let all = up_to(&words.bytes, words.length);
-    complain(rt, path, up_to(all, number_start(all)));
+impl Place<'_> {
+    pub fn complain(self, why: &[u8]) -> Told {
+        tell(self.rt, &[b"cartlozenge: ", self.path, b": ", why, b"\n"])
+    }
+
+    // With the system's own word for it.
+    pub(crate) fn fail(self, error: Error) -> Told {
+        let mut space = [0u8; 256];
+        let mut words = Words {
+            page: Page::new(&mut space),
+        };
+        let _ = write!(words, "{error}");
+        self.complain(without_number(words.page.text()))
+    }
 }

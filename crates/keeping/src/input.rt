@@ -1,38 +1,28 @@
 // Standard input, read behind what is held of it.
 ghost use Rattle.std.specs.Prelude.{◌≡◌, ◌+◌, ◌≤◌, IfOk, length, take};
-ghost use Rattle.text.specs.Arrivals.{held_in, Grows};
+ghost use Rattle.text.specs.Arrivals.{waiting, Grows};
 
-use crate::complaints::fail;
+use crate::complaints::Told;
+use crate::files::Place;
 use crate::guard::pause;
 use std::io;
 use std::io::{Error, ErrorKind, Read};
-use text::arrivals::Held;
-
-// Whether more may come.
-#[derive(Drop)]
-pub enum Reading {
-    Open,
-    Ended,
-    Failed,
-}
-
-#[derive(Drop)]
-pub struct Arrival {
-    pub held: Held,
-    pub reading: Reading,
-}
+use text::arrivals::Input;
 
 // A read that failed may be tried again where it was interrupted, or where nothing has arrived yet.
-fn after_failure(rt: HostRuntime, error: Error) -> Reading {
-    if error.kind() == ErrorKind::Interrupted {
-        return Reading::Open;
+fn forgive(rt: HostRuntime, error: Error) -> Result<(), Told> {
+    match error.kind() {
+        ErrorKind::Interrupted => Ok(()),
+        ErrorKind::WouldBlock => {
+            pause(rt);
+            Ok(())
+        }
+        _ => Err(Place {
+            rt,
+            path: b"standard input",
+        }
+        .fail(error)),
     }
-    if error.kind() == ErrorKind::WouldBlock {
-        pause(rt);
-        return Reading::Open;
-    }
-    fail(rt, b"standard input", error);
-    Reading::Failed
 }
 
 // The first bytes stay.
@@ -41,40 +31,26 @@ fn read_behind(rt: HostRuntime, buffer: &mut [u8], filled: usize) -> io::Result<
     ensures kept { take filled buffer.new ≡ take filled buffer.old }
     ensures room { IfOk result (λ n. filled + n ≤ length buffer.new) }
 {
-    let space = &mut buffer[filled..];
-    rt.stdin().read(space)
+    rt.stdin().read(&mut buffer[filled..])
 }
 
-// To a full buffer nothing can come. The program's has room for sixteen of the longest lines, and holds less than one when it reads.
-pub fn read_more(rt: HostRuntime, buffer: &mut [u8], held: Held) -> Arrival
-    ensures { Grows (held_in buffer.old held) (held_in buffer.new result.held) }
+// Reads once, and answers whether more may come. To a full buffer nothing can. The program's has room for sixteen of the longest
+// lines, and holds less than one when it reads.
+pub fn read_more(rt: HostRuntime, input: &mut Input) -> Result<bool, Told>
+    ensures same_reference { input.new.buffer.ghost_name ≡ input.old.buffer.ghost_name }
+    ensures grows { Grows (waiting input.old) (waiting input.new) }
 {
-    let filled = held.filled;
-    if filled >= buffer.len() {
-        return Arrival {
-            held,
-            reading: Reading::Ended,
-        };
+    if input.filled >= input.buffer.len() {
+        return Ok(false);
     }
-    match read_behind(rt, buffer, filled) {
+    match read_behind(rt, input.buffer, input.filled) {
         Ok(n) => {
-            if n == 0 {
-                return Arrival {
-                    held,
-                    reading: Reading::Ended,
-                };
-            }
-            Arrival {
-                held: Held {
-                    filled: filled + n,
-                    skips: held.skips,
-                },
-                reading: Reading::Open,
-            }
+            input.filled += n;
+            Ok(n > 0)
         }
-        Err(error) => Arrival {
-            held,
-            reading: after_failure(rt, error),
-        },
+        Err(error) => {
+            forgive(rt, error)?;
+            Ok(true)
+        }
     }
 }

@@ -1,7 +1,7 @@
 -- What the tests of a ledger's state say, a log bit in its byte, and the funding order that is written. Assumes nothing.
 use Prim.Native.Nat.{ℕ, ◌+◌, ◌*◌, ◌%◌, ◌^◌, ◌≤◌, ◌<◌}
-use mathlib.Core.Path.{◌≡◌, ap, ◌∙◌}
-use mathlib.Core.Bool.{true, and-eq-true_iff}
+use mathlib.Core.Path.{◌≡◌, refl, ap, ◌∙◌}
+use mathlib.Core.Bool.{Bool, true, false, cond, and-eq-true_iff}
 use mathlib.Core.List.{List}
 use native.Mathlib.Nat.{one-mul}
 use native.Mathlib.Omega.{arith}
@@ -16,16 +16,24 @@ use Rattle.wire.specs.Messages.{is_funding, funding_bytes}
 use Rattle.wire.specs.Refusals.{Said}
 use Rattle.wire.specs.Writers.{written, writes, write_funding}
 use Rattle.wire.specs.declared.kinds.Funding.{Funding}
-use Rattle.wire.specs.declared.answers.WriteAnswer.{WriteAnswer}
+use Rattle.std.specs.Prelude.{◌≢◌, Option, None, Some, MatchOption, Result, Ok}
+use Rattle.std.specs.Array.{IsWholeChunk}
+use Rattle.wire.specs.declared.answers.Refusal.{Refusal}
 use Rattle.octets.proofs.TestLaws.{both}
 use Rattle.writing.proofs.Written.{length_funding}
 use Rattle.states.specs.Headers.{faults_in}
 use Rattle.ledger.specs.States.{Rules, base, state_length, is_state, is_base_header, pot, is_pot, value}
-use Rattle.ledger.specs.Answers.{fund_outcome}
+use Rattle.ledger.specs.Answers.{fund_outcome, log_said, redeemed, unredeemed}
 
 pub state_length_lem : (rules : Rules) (s : List ℕ) → is_state rules s ≡ true → length s ≡ state_length rules
 unfolding is_state
 state_length_lem rules s e = eqb-true _ _ (both (eqb (length s) (state_length rules)) (rules.is_header s) e).0
+
+-- bytes that are a state have its length, so that they are an array of it
+pub opened : {X : Type 0} (now : X → List ℕ) (o : Option X) (s : List ℕ) → is_state base s ≡ true → MatchOption o (length s ≢ 32_784) (λ x. IsWholeChunk s (now x) 32_784)
+    → MatchOption o (is_state base s ≡ false) (λ x. (now x ≡ s) × (is_state base (now x) ≡ true))
+opened now None s t h = absurd (h (state_length_lem base s t))
+opened now (Some x) s t h = (h.same, rw h.same t)
 
 pub state_header : (rules : Rules) (s : List ℕ) → is_state rules s ≡ true → rules.is_header s ≡ true
 unfolding is_state
@@ -56,10 +64,15 @@ unfolding is_funding
 next_in_range last account amount h a v = rw (le-leb 1 (last + 1) (omega arith), le-leb (last + 1) 65_535 (omega arith), a, v)
 
 -- a writer of a funding order that is in range, with room for it, leaves its bytes
-pub funding_left : (out left : List ℕ) (o : Funding) (answer : WriteAnswer) → is_funding o ≡ true → 16 ≤ length out → written answer left ≡ write_funding out o → left ≡ put out 0 (funding_bytes o)
+pub funding_left : (out left : List ℕ) (o : Funding) (answer : Result ℕ Refusal) → is_funding o ≡ true → 16 ≤ length out → written answer left ≡ write_funding out o → left ≡ put out 0 (funding_bytes o)
 unfolding write_funding writes
 funding_left out left o answer h room e = ap (λ w. w.out) (rw (h, length_funding o, le-leb _ _ room) at e)
 
 -- equal bytes in state and output under one answer
 pub outcome_same : {said : Said} {s t out over : List ℕ} → s ≡ t → out ≡ over → fund_outcome said s out ≡ fund_outcome said t over
 outcome_same {said = said} e o = λ i. fund_outcome said (e i) (o i)
+
+-- what is said of the log
+pub log_told : (b : Bool) → log_said (Ok b) ≡ cond b redeemed unredeemed
+log_told true = refl
+log_told false = refl

@@ -1,10 +1,10 @@
 -- 01, Refusal numbers and Rules: the number and values of each case of each answer of the ledger.
-use Rattle.std.specs.Prelude.{ℕ, List, [], ◌∷◌}
-use Rattle.wire.specs.Refusals.{Said, gives, refuses, refusal_number}
-use Rattle.ledger.specs.declared.answers.FundAnswer.{FundAnswer}
-use Rattle.ledger.specs.declared.answers.RedeemAnswer.{RedeemAnswer}
-use Rattle.ledger.specs.declared.answers.PotAnswer.{PotAnswer}
-use Rattle.ledger.specs.declared.answers.LogAnswer.{LogAnswer}
+use Rattle.std.specs.Prelude.{ℕ, List, [], ◌∷◌, Bool, cond, Result}
+use Rattle.wire.specs.Refusals.{Said, gives, refuses, said}
+use Rattle.wire.specs.declared.kinds.FundingIndex.{FundingIndex}
+use Rattle.wire.specs.declared.answers.Refusal.{Refusal}
+use Rattle.ledger.specs.declared.answers.Payout.{Payout}
+use Rattle.ledger.specs.declared.answers.Pot.{Pot}
 
 -- funded, with the index of the funding order
 abbrev pub funded : ℕ → Said
@@ -27,25 +27,20 @@ abbrev pub unredeemed : Said
 unredeemed = gives (0 ∷ [])
 
 -- the answer on funding
-abbrev pub fund_said : FundAnswer → Said
-fund_said (FundAnswer.Funded index) = funded index.0
-fund_said (FundAnswer.Refused r) = refuses (refusal_number r)
+abbrev pub fund_said : Result FundingIndex Refusal → Said
+fund_said = said (λ (index : FundingIndex). index.0 ∷ [])
 
 -- the answer on a certificate to redeem
-abbrev pub redeem_said : RedeemAnswer → Said
-redeem_said (RedeemAnswer.Paid payout) = paid payout.account payout.amount
-redeem_said (RedeemAnswer.Refused r) = refuses (refusal_number r)
+abbrev pub redeem_said : Result Payout Refusal → Said
+redeem_said = said (λ (payout : Payout). payout.account ∷ payout.amount ∷ [])
 
 -- the answer on reading last index and pot
-abbrev pub pot_said : PotAnswer → Said
-pot_said (PotAnswer.Holds pot) = holds pot.index.0 pot.amount
-pot_said (PotAnswer.Refused r) = refuses (refusal_number r)
+abbrev pub pot_said : Result Pot Refusal → Said
+pot_said = said (λ (pot : Pot). pot.index.0 ∷ pot.amount ∷ [])
 
--- the answer on reading the log
-abbrev pub log_said : LogAnswer → Said
-log_said LogAnswer.Redeemed = redeemed
-log_said LogAnswer.Unredeemed = unredeemed
-log_said (LogAnswer.Refused r) = refuses (refusal_number r)
+-- the answer on reading the log: 1 where the sequence is in it, otherwise 0
+abbrev pub log_said : Result Bool Refusal → Said
+log_said = said (λ (redeemed : Bool). cond redeemed 1 0 ∷ [])
 
 -- an answer, and the state and the output afterwards
 pub record FundOutcome : Type 0 where

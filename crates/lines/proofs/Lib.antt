@@ -1,3 +1,2 @@
-pub mod LineLaws
-pub mod FileLaws
 pub mod ServingLaws
+pub mod FileLaws

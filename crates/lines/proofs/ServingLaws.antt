@@ -1,42 +1,28 @@
 -- Laws of serving: room on a page, an answer and the line feed behind it, and what is left of an input, line by line. Assumes nothing.
 use Prim.Native.Nat.{ℕ, zero, suc, ◌+◌, ◌-◌, ◌≤◌, ◌<◌}
 use mathlib.Core.Path.{◌≡◌, refl, sym, ap, ◌∙◌}
-use mathlib.Core.Bool.{Bool, true, false}
-use mathlib.Core.List.{List, ◌++◌}
+use mathlib.Core.Bool.{true, false}
+use mathlib.Core.List.{List}
 use native.Mathlib.Omega.{arith}
-use lib.Dec.{leb}
 use lib.ListN.{length, take, drop, length-drop}
-use borrow.Author.Tests.{leb-true, leb-false, le-leb, lt-leb, lt-ltb, le-ltb}
+use borrow.Author.Tests.{lt-ltb, le-ltb}
 use Rattle.octets.specs.Octets.{cut}
 use Rattle.text.specs.Ascii.{ascii}
 use Rattle.text.specs.Pages.{Page, said}
 use Rattle.text.specs.Words.{line_end}
-use Rattle.text.specs.Arrivals.{Arrived, held_in, next_of, passing, released}
-use Rattle.text.proofs.PageLaws.{said_then}
+use Rattle.text.specs.Arrivals.{Arrived, next_of, released}
+use Rattle.text.proofs.PageLaws.{says_then}
 use Rattle.text.proofs.WordLaws.{cut_rest}
-use Rattle.lines.specs.Calls.{Desk, desk, replied}
-use Rattle.lines.specs.Serving.{reply_of, answered, has_room, Served, at_desk, next_line, served_from, served, Turn, turn, answered_turn, refused, turn_of, turned}
-use Rattle.text.specs.declared.arrivals.Held.{Held}
+use Rattle.lines.specs.Calls.{Desk, desk}
+use Rattle.lines.specs.Serving.{reply_of, answered, has_room, Served, at_desk, next_line, served_from, served, Turn, turn, answered_turn, turn_of, turned}
 use Rattle.text.specs.declared.arrivals.Next.{Next}
-use Rattle.refusals.specs.Refusals.{fault_text}
-use Rattle.refusals.specs.declared.Fault.{Fault}
 use Rattle.lines.specs.declared.serving.Role.{Role}
 
--- where there are fewer than n bytes there is no room for n more; otherwise there is room up to the last n
-pub no_room : (at n most : ℕ) → most < n → leb (at + n) most ≡ false
-no_room at n most h = lt-leb (at + n) most (omega arith)
-
-pub room_left : (at n most : ℕ) → n ≤ most → leb (at + n) most ≡ leb at (most - n)
-room_left at n most h = go (leb at (most - n)) refl
-  where
-    go : (b : Bool) → leb at (most - n) ≡ b → leb (at + n) most ≡ b
-    go true e = let fits = leb-true at (most - n) e in le-leb (at + n) most (omega arith)
-    go false e = let over = leb-false at (most - n) e in lt-leb (at + n) most (omega arith)
-
 -- a line is answered once a line feed stands behind its reply
-pub reply_ends : (role : Role) (s line : List ℕ) (p : Page) {t : List ℕ} {q r : Page} → desk t q ≡ replied p (reply_of role s line) → r ≡ said q (ascii "\n") → desk t r ≡ answered role (desk s p) line
+pub reply_ends : {A : Type 0} {i j k : A} {t : List ℕ} {q r : Page} (role : Role) (s line : List ℕ) (p : Page)
+    → (t ≡ (reply_of role s line).state) × ((j ≡ i) × (q ≡ said p (reply_of role s line).text)) → (k ≡ j) × (r ≡ said q (ascii "\n")) → (k ≡ i) × (desk t r ≡ answered role (desk s p) line)
 unfolding answered
-reply_ends role s line p e f = let first = ap (λ (d : Desk). d.page) e in λ i. desk (e i).state (said_then p _ _ first f i)
+reply_ends role s line p e f = let whole = says_then _ _ _ e.1 f in (whole.0, λ i. desk (e.0 i) (whole.1 i))
 
 -- nothing more is served where there is no room or no whole line, whatever bounds the number of lines
 served_stops : (n : ℕ) (role : Role) (input : List ℕ) (from : ℕ) (d : Desk) → has_room d.page ≡ false → served_from n role input from d ≡ at_desk from d
@@ -90,13 +76,3 @@ answered_turn_lem {bytes} {taken} {q} {left} role d a part all rest =
 -- a turn goes by the step that is next
 pub turn_by : {q : Turn} {next : Next} (role : Role) (d : Desk) (a : Arrived) (step : Next) → next ≡ next_of a → next ≡ step → q ≡ turn_of role d a step → q ≡ turned role d a
 turn_by role d a step e told f = f ∙ ap (turn_of role d a) (sym told ∙ e)
-
--- what is passed over is dropped, with a refusal where it was too long and without one where it goes on; a line skipped leaves what is behind it
-pub refused_turn : {p : Page} {held : Held} (d : Desk) (buffer : List ℕ) (fault : Fault) → p ≡ said d.page (fault_text fault ++ ascii "\n") → held ≡ record { filled = 0; skips = true } → turn (desk d.state p) (held_in buffer held) true ≡ turn (refused d fault) passing true
-refused_turn d buffer fault e f = λ i. turn (desk d.state (e i)) (held_in buffer (f i)) true
-
-pub dropped_turn : {held : Held} (d : Desk) (buffer : List ℕ) → held ≡ record { filled = 0; skips = true } → turn d (held_in buffer held) true ≡ turn d passing true
-dropped_turn d buffer f = ap (λ (h : Held). turn d (held_in buffer h) true) f
-
-pub skipped_turn : {left rest : Arrived} (d : Desk) → left ≡ rest → turn d left false ≡ turn d rest false
-skipped_turn d e = ap (λ (l : Arrived). turn d l false) e

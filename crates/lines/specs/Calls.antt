@@ -1,5 +1,5 @@
 -- What each line does: the text that answers it, and the state afterwards. A line that is no call changes nothing.
-use Rattle.std.specs.Prelude.{ℕ, cond, List, length, replicate, ltb}
+use Rattle.std.specs.Prelude.{ℕ, cond, List, length, replicate, ltb, ◌≡◌}
 use Rattle.octets.specs.Octets.{same}
 use Rattle.octets.specs.Tests.{need}
 use Rattle.wire.specs.Refusals.{Said}
@@ -10,7 +10,8 @@ use Rattle.ledger.specs.States as logs
 use Rattle.ledger.specs.Calls as ledger
 use Rattle.ledger.specs.Answers.{FundOutcome}
 use Rattle.text.specs.Ascii.{ascii}
-use Rattle.text.specs.Pages.{Page, said}
+use Rattle.text.specs.Pages.{Page, page, Says}
+use Rattle.text.specs.declared.page.Page.{Page as LentPage}
 use Rattle.text.specs.Words.{word_at, has_words, number_of, is_bytes, bytes_of, is_line}
 use Rattle.refusals.specs.Refusals.{fault_text}
 use Rattle.wording.specs.Answers.{order_text, certificate_text, funding_text, account_text, standing_text, fund_text, redeem_text, pot_text, log_text}
@@ -117,6 +118,10 @@ pub record Desk : Type 0 where
 abbrev pub desk : List ℕ → Page → Desk
 desk s p = record { state = s; page = p }
 
--- a reply: its text behind what stands on the page
-abbrev pub replied : Page → Reply → Desk
-replied p r = desk r.state (said p r.text)
+-- the page that lent bytes are
+abbrev pub lent : LentPage → Page
+lent p = page p.bytes.now p.length
+
+-- a reply: the state that it leaves, and its text behind what stood on the same lent bytes
+abbrev pub Replies : List ℕ → LentPage → LentPage → Reply → Type 0
+Replies state before after r = (state ≡ r.state) × Says before after r.text

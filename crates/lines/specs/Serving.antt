@@ -1,12 +1,13 @@
 -- Lines that arrive together: each is answered in its turn.
-use Rattle.std.specs.Prelude.{ℕ, zero, suc, ◌+◌, Bool, true, false, cond, List, [], ◌++◌, length, take, drop, leb, ltb}
+use Rattle.std.specs.Prelude.{ℕ, zero, suc, ◌+◌, Bool, true, false, cond, List, [], ◌++◌, length, take, drop, leb, ltb, ◌≡◌}
 use Rattle.octets.specs.Tests.{need}
 use Rattle.text.specs.Ascii.{ascii}
 use Rattle.text.specs.Pages.{Page, said}
+use Rattle.text.specs.declared.page.Page.{Page as LentPage}
 use Rattle.text.specs.Words.{line_end}
 use Rattle.text.specs.Arrivals.{Arrived, has_line, next_of, passing, released, skipped}
 use Rattle.refusals.specs.Refusals.{fault_text}
-use Rattle.lines.specs.Calls.{Reply, machine_line, ledger_line, Desk, desk}
+use Rattle.lines.specs.Calls.{Reply, machine_line, ledger_line, Desk, desk, lent}
 use Rattle.text.specs.declared.arrivals.Next.{Next}
 use Rattle.refusals.specs.declared.Fault.{Fault}
 use Rattle.lines.specs.declared.serving.Role.{Role}
@@ -19,6 +20,10 @@ reply_of Role.Ledger s line = ledger_line s line
 -- one line answered; a line feed ends the answer
 unfoldable pub answered : Role → Desk → List ℕ → Desk
 answered role d line = desk (reply_of role d.state line).state (said d.page ((reply_of role d.state line).text ++ ascii "\n"))
+
+-- the same lent bytes, and what is on the desk once they and the state lie there
+abbrev pub OnDesk : List ℕ → LentPage → LentPage → Desk → Type 0
+OnDesk state before after d = (after.bytes.ghost_name ≡ before.bytes.ghost_name) × (desk state (lent after) ≡ d)
 
 -- no answer is longer than 256 bytes: where less room is left, the page is full
 abbrev pub has_room : Page → Bool

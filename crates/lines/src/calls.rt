@@ -1,15 +1,15 @@
 // What a line asks is done, and the answer is written behind what stands on a page. A line that is no call changes nothing.
-ghost use Rattle.std.specs.Prelude.{◌≡◌, true};
-ghost use Rattle.text.specs.Pages.{page};
-ghost use Rattle.text.specs.Words.{is_line};
 ghost use Rattle.lines.specs.Calls as calls;
-ghost use Rattle.lines.specs.Calls.{desk, replied};
+ghost use Rattle.lines.specs.Calls.{Replies};
 
 use refusals::{Fault, unread};
+use text::line::Line;
+use text::page::Page;
 use text::words;
 use wire::kinds::{Account, Sequence};
 
-// The calls that take a message and its verdicts.
+// The calls that take a message and its verdicts. With a closure in its place `paper_line` had a clause over each state and page that the closure
+// meets, before and after, and still had to say which call that is.
 #[derive(Drop)]
 pub enum Paper {
     Order,
@@ -18,182 +18,156 @@ pub enum Paper {
     Redemption,
 }
 
-fn handle(
-    state: &mut [u8],
-    paper: Paper,
-    message: &[u8],
-    verdicts: &[u8],
-    out: &mut [u8],
-    at: usize,
-) -> usize
-    ensures { desk state.new (page out.new result) ≡ replied (page out.old at) (calls.handled paper state.old message.now verdicts.now) }
+#[tactic(auto, unfolding(crate::specs::Calls::handled))]
+fn handle(state: &mut [u8], paper: Paper, message: &[u8], verdicts: &[u8], page: &mut Page)
+    ensures { Replies state.new page.old page.new (calls.handled paper state.old message.now verdicts.now) }
 {
     match paper {
-        Paper::Order => wording::order(out, at, machine::handle_order(state, message, verdicts)),
-        Paper::Certificate => wording::certificate(
-            out,
-            at,
-            machine::handle_certificate(state, message, verdicts),
-        ),
-        Paper::Funding => wording::funding(
-            out,
-            at,
-            machine::handle_funding(state, message, verdicts),
-        ),
-        Paper::Redemption => wording::redeem(out, at, ledger::redeem(state, message, verdicts)),
+        Paper::Order => wording::order(page, machine::handle_order(state, message, verdicts)),
+        Paper::Certificate => {
+            wording::certificate(page, machine::handle_certificate(state, message, verdicts))
+        }
+        Paper::Funding => wording::funding(page, machine::handle_funding(state, message, verdicts)),
+        Paper::Redemption => wording::redeem(page, ledger::redeem(state, message, verdicts)),
     }
 }
 
-fn paper_line(state: &mut [u8], paper: Paper, line: &[u8], out: &mut [u8], at: usize) -> usize
-    requires { is_line line.now ≡ true }
-    ensures { desk state.new (page out.new result) ≡ replied (page out.old at) (calls.paper_line paper state.old line.now) }
+#[tactic(auto, unfolding(crate::specs::Calls::paper_line))]
+fn paper_line(state: &mut [u8], paper: Paper, line: &Line, page: &mut Page)
+    ensures { Replies state.new page.old page.new (calls.paper_line paper state.old line.now) }
 {
-    if !words::has_words(line, 3) {
-        return unread(out, at, Fault::WordCount);
+    if !line.has_words(3) {
+        return unread(page, Fault::WordCount);
     }
-    let first = words::word(line, 1);
-    if !words::is_bytes(first) {
-        return unread(out, at, Fault::NotHexadecimal);
-    }
-    let second = words::word(line, 2);
-    if !words::is_bytes(second) {
-        return unread(out, at, Fault::NotHexadecimal);
-    }
-    let mut message = [0u8; words::BYTES];
-    let m = words::read_bytes(&mut message, first);
-    let mut verdicts = [0u8; words::BYTES];
-    let v = words::read_bytes(&mut verdicts, second);
-    handle(
-        state,
-        paper,
-        octets::cut(&message, 0, m),
-        octets::cut(&verdicts, 0, v),
-        out,
-        at,
-    )
+    let mut first = [0; words::BYTES];
+    let Some(message) = line.bytes(1, &mut first) else {
+        return unread(page, Fault::NotHexadecimal);
+    };
+    let mut second = [0; words::BYTES];
+    let Some(verdicts) = line.bytes(2, &mut second) else {
+        return unread(page, Fault::NotHexadecimal);
+    };
+    handle(state, paper, message, verdicts, page);
 }
 
-fn account_line(state: &[u8], line: &[u8], out: &mut [u8], at: usize) -> usize
-    ensures { desk state.now (page out.new result) ≡ replied (page out.old at) (calls.account_line state.now line.now) }
+#[tactic(auto, unfolding(crate::specs::Calls::account_line))]
+fn account_line(state: &[u8], line: &Line, page: &mut Page)
+    ensures { Replies state.now page.old page.new (calls.account_line state.now line.now) }
 {
-    if !words::has_words(line, 2) {
-        return unread(out, at, Fault::WordCount);
+    if !line.has_words(2) {
+        return unread(page, Fault::WordCount);
     }
-    let account = Account(words::number(words::word(line, 1)));
-    wording::account(out, at, account, machine::read_account(state, account))
+    let account = Account(line.number(1));
+    wording::account(page, account, machine::read_account(state, account));
 }
 
-fn standing_line(state: &[u8], line: &[u8], out: &mut [u8], at: usize) -> usize
-    requires { is_line line.now ≡ true }
-    ensures { desk state.now (page out.new result) ≡ replied (page out.old at) (calls.standing_line state.now line.now) }
+#[tactic(auto, unfolding(crate::specs::Calls::standing_line))]
+fn standing_line(state: &[u8], line: &Line, page: &mut Page)
+    ensures { Replies state.now page.old page.new (calls.standing_line state.now line.now) }
 {
-    if !words::has_words(line, 2) {
-        return unread(out, at, Fault::WordCount);
+    if !line.has_words(2) {
+        return unread(page, Fault::WordCount);
     }
-    let first = words::word(line, 1);
-    if !words::is_bytes(first) {
-        return unread(out, at, Fault::NotHexadecimal);
-    }
-    let mut message = [0u8; words::BYTES];
-    let m = words::read_bytes(&mut message, first);
-    wording::standing(
-        out,
-        at,
-        machine::standing_body(octets::cut(&message, 0, m), state),
-    )
+    let mut space = [0; words::BYTES];
+    let Some(message) = line.bytes(1, &mut space) else {
+        return unread(page, Fault::NotHexadecimal);
+    };
+    wording::standing(page, machine::standing_body(message, state));
 }
 
-fn fund_line(state: &mut [u8], line: &[u8], out: &mut [u8], at: usize) -> usize
-    ensures { desk state.new (page out.new result) ≡ replied (page out.old at) (calls.fund_line state.old line.now) }
+#[tactic(auto, unfolding(crate::specs::Calls::fund_line))]
+fn fund_line(state: &mut [u8], line: &Line, page: &mut Page)
+    ensures { Replies state.new page.old page.new (calls.fund_line state.old line.now) }
 {
-    if !words::has_words(line, 3) {
-        return unread(out, at, Fault::WordCount);
+    if !line.has_words(3) {
+        return unread(page, Fault::WordCount);
     }
-    let account = Account(words::number(words::word(line, 1)));
-    let amount = words::number(words::word(line, 2));
-    let mut order = [0u8; 16];
+    let account = Account(line.number(1));
+    let amount = line.number(2);
+    let mut order = [0; 16];
     let answer = ledger::fund(state, &mut order, account, amount);
-    wording::fund(out, at, answer, &order)
+    wording::fund(page, answer, &order);
 }
 
-fn pot_line(state: &[u8], line: &[u8], out: &mut [u8], at: usize) -> usize
-    ensures { desk state.now (page out.new result) ≡ replied (page out.old at) (calls.pot_line state.now line.now) }
+#[tactic(auto, unfolding(crate::specs::Calls::pot_line))]
+fn pot_line(state: &[u8], line: &Line, page: &mut Page)
+    ensures { Replies state.now page.old page.new (calls.pot_line state.now line.now) }
 {
-    if !words::has_words(line, 1) {
-        return unread(out, at, Fault::WordCount);
+    if !line.has_words(1) {
+        return unread(page, Fault::WordCount);
     }
-    wording::pot(out, at, ledger::read_pot(state))
+    wording::pot(page, ledger::read_pot(state));
 }
 
-fn log_line(state: &[u8], line: &[u8], out: &mut [u8], at: usize) -> usize
-    ensures { desk state.now (page out.new result) ≡ replied (page out.old at) (calls.log_line state.now line.now) }
+#[tactic(auto, unfolding(crate::specs::Calls::log_line))]
+fn log_line(state: &[u8], line: &Line, page: &mut Page)
+    ensures { Replies state.now page.old page.new (calls.log_line state.now line.now) }
 {
-    if !words::has_words(line, 3) {
-        return unread(out, at, Fault::WordCount);
+    if !line.has_words(3) {
+        return unread(page, Fault::WordCount);
     }
-    let account = Account(words::number(words::word(line, 1)));
-    let sequence = Sequence(words::number(words::word(line, 2)));
-    wording::log(
-        out,
-        at,
-        account,
-        sequence,
-        ledger::read_log(state, account, sequence),
-    )
+    let account = Account(line.number(1));
+    let sequence = Sequence(line.number(2));
+    let answer = ledger::read_log(state, account, sequence);
+    wording::log(page, account, sequence, answer);
 }
 
-fn uncalled(state: &[u8], line: &[u8], out: &mut [u8], at: usize) -> usize
-    ensures { desk state.now (page out.new result) ≡ replied (page out.old at) (calls.uncalled state.now line.now) }
+fn uncalled(state: &[u8], line: &Line, page: &mut Page)
+    ensures { Replies state.now page.old page.new (calls.uncalled state.now line.now) }
 {
-    if words::word(line, 0).len() == 0 {
-        return unread(out, at, Fault::Empty);
+    if line.word(0).is_empty() {
+        return unread(page, Fault::Empty);
     }
-    unread(out, at, Fault::NoCall)
+    unread(page, Fault::NoCall);
 }
 
-pub fn machine_line(state: &mut [u8], line: &[u8], out: &mut [u8], at: usize) -> usize
-    ensures { desk state.new (page out.new result) ≡ replied (page out.old at) (calls.machine_line state.old line.now) }
+#[tactic(auto, using(std::proofs::lemmas::Bool::Decides::nat_tests), unfolding(crate::specs::Calls::machine_line, text::specs::Ascii::ascii))]
+pub fn machine_line(state: &mut [u8], line: &[u8], page: &mut Page)
+    ensures { Replies state.new page.old page.new (calls.machine_line state.old line.now) }
 {
-    if line.len() > words::LINE {
-        return unread(out, at, Fault::TooLong);
-    }
-    let name = words::word(line, 0);
+    let Some(line) = Line::new(line) else {
+        return unread(page, Fault::TooLong);
+    };
+    // Not a `match` on byte strings: its goal `returns-in_default`, with some forty ways to it, did not prove.
+    let name = line.word(0);
     if octets::same(name, b"order") {
-        return paper_line(state, Paper::Order, line, out, at);
+        return paper_line(state, Paper::Order, &line, page);
     }
     if octets::same(name, b"certificate") {
-        return paper_line(state, Paper::Certificate, line, out, at);
+        return paper_line(state, Paper::Certificate, &line, page);
     }
     if octets::same(name, b"funding") {
-        return paper_line(state, Paper::Funding, line, out, at);
+        return paper_line(state, Paper::Funding, &line, page);
     }
     if octets::same(name, b"account") {
-        return account_line(state, line, out, at);
+        return account_line(state, &line, page);
     }
     if octets::same(name, b"standing") {
-        return standing_line(state, line, out, at);
+        return standing_line(state, &line, page);
     }
-    uncalled(state, line, out, at)
+    uncalled(state, &line, page);
 }
 
-pub fn ledger_line(state: &mut [u8], line: &[u8], out: &mut [u8], at: usize) -> usize
-    ensures { desk state.new (page out.new result) ≡ replied (page out.old at) (calls.ledger_line state.old line.now) }
+#[tactic(auto, using(std::proofs::lemmas::Bool::Decides::nat_tests), unfolding(crate::specs::Calls::ledger_line, text::specs::Ascii::ascii))]
+pub fn ledger_line(state: &mut [u8], line: &[u8], page: &mut Page)
+    ensures { Replies state.new page.old page.new (calls.ledger_line state.old line.now) }
 {
-    if line.len() > words::LINE {
-        return unread(out, at, Fault::TooLong);
-    }
-    let name = words::word(line, 0);
+    let Some(line) = Line::new(line) else {
+        return unread(page, Fault::TooLong);
+    };
+    // Not a `match` on byte strings, as in `machine_line`.
+    let name = line.word(0);
     if octets::same(name, b"redeem") {
-        return paper_line(state, Paper::Redemption, line, out, at);
+        return paper_line(state, Paper::Redemption, &line, page);
     }
     if octets::same(name, b"fund") {
-        return fund_line(state, line, out, at);
+        return fund_line(state, &line, page);
     }
     if octets::same(name, b"pot") {
-        return pot_line(state, line, out, at);
+        return pot_line(state, &line, page);
     }
     if octets::same(name, b"redeemed") {
-        return log_line(state, line, out, at);
+        return log_line(state, &line, page);
     }
-    uncalled(state, line, out, at)
+    uncalled(state, &line, page);
 }

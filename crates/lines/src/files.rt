@@ -1,5 +1,5 @@
 // Whether the bytes of a state file are a state.
-ghost use Rattle.std.specs.Prelude.{◌≡◌, ◌≤◌, length};
+ghost use Rattle.std.specs.Prelude.{◌≡◌};
 ghost use Rattle.lines.specs.Files as files;
 
 use crate::serving::Role;
@@ -7,29 +7,22 @@ use records::record::Record;
 use records::state;
 use wire::kinds::Account;
 
-fn are_records(s: &[u8]) -> bool
-    requires { length s.now ≡ 4616 }
+fn are_records(s: &[u8; state::LENGTH]) -> bool
     ensures { result ≡ files.are_records 64 s.now }
 {
-    let mut account = 64;
-    while 0 < account {
-        account -= 1;
-        if !Record::formed(s, Account(account)) {
-            return false;
-        }
-    }
-    true
+    (0..64).all(|account| Record::formed(s, Account(account)))
 }
 
+#[tactic(auto, unfolding(crate::specs::Files::is_file))]
 pub fn is_file(role: Role, s: &[u8]) -> bool
     ensures { result ≡ files.is_file role s.now }
 {
     match role {
         Role::Machine => {
-            if !state::formed(s) {
+            let Some(state) = state::open(s) else {
                 return false;
-            }
-            are_records(s)
+            };
+            are_records(state)
         }
         Role::Ledger => ledger::state::formed(s),
     }

@@ -1,149 +1,113 @@
 // Lines that arrive together: each is answered in its turn.
 ghost use Rattle.std.specs.Prelude.{◌≡◌, ◌≤◌, length, ◌++◌};
 ghost use Rattle.text.specs.Ascii.{ascii};
-ghost use Rattle.text.specs.Pages.{page, said};
-ghost use Rattle.text.specs.Arrivals.{held_in};
+ghost use Rattle.text.specs.Pages.{Says};
+ghost use Rattle.text.specs.Arrivals.{waiting};
 ghost use Rattle.refusals.specs.Refusals.{fault_text};
-ghost use Rattle.lines.specs.Calls.{desk, replied};
+ghost use Rattle.lines.specs.Calls.{lent, desk, Replies};
 ghost use Rattle.lines.specs.Serving as serving;
+ghost use Rattle.lines.specs.Serving.{OnDesk};
 
 use crate::calls;
 use refusals::{Fault, unread};
-use text::arrivals::{Held, Next};
-use text::page::{say, up_to};
-use text::{arrivals, words};
+use text::arrivals::{Input, Next};
+use text::page::Page;
+use text::words;
 
-// Who answers.
+// Who answers. It goes beside the state: a struct that lent both would have each clause say that they are still the same two.
 #[derive(Clone, Copy)]
 pub enum Role {
     Machine,
     Ledger,
 }
 
-// How much of the input was taken, and how many bytes of the page are text then.
-#[derive(Drop)]
-pub struct Progress {
-    pub taken: usize,
-    pub length: usize,
-}
-
 // No answer is longer.
 pub const LONGEST: usize = 256;
 
-fn reply(role: Role, state: &mut [u8], line: &[u8], out: &mut [u8], at: usize) -> usize
-    ensures { desk state.new (page out.new result) ≡ replied (page out.old at) (serving.reply_of role state.old line.now) }
+fn reply(role: Role, state: &mut [u8], line: &[u8], page: &mut Page)
+    ensures { Replies state.new page.old page.new (serving.reply_of role state.old line.now) }
 {
     match role {
-        Role::Machine => calls::machine_line(state, line, out, at),
-        Role::Ledger => calls::ledger_line(state, line, out, at),
+        Role::Machine => calls::machine_line(state, line, page),
+        Role::Ledger => calls::ledger_line(state, line, page),
     }
 }
 
-fn answer(role: Role, state: &mut [u8], line: &[u8], out: &mut [u8], at: usize) -> usize
-    ensures { desk state.new (page out.new result) ≡ serving.answered role (desk state.old (page out.old at)) line.now }
+fn answer(role: Role, state: &mut [u8], line: &[u8], page: &mut Page)
+    ensures { OnDesk state.new page.old page.new (serving.answered role (desk state.old (lent page.old)) line.now) }
 {
-    let next = reply(role, state, line, out, at);
-    say(out, next, b"\n")
+    reply(role, state, line, page);
+    page.say(b"\n");
 }
 
-fn has_room(out: &[u8], at: usize) -> bool
-    ensures { result ≡ serving.has_room (page out.now at) }
+fn has_room(page: &Page) -> bool
+    ensures { result ≡ serving.has_room (lent page.now) }
 {
-    if out.len() < LONGEST {
-        return false;
-    }
-    at <= out.len() - LONGEST
+    LONGEST <= page.bytes.len() && page.length <= page.bytes.len() - LONGEST
 }
 
-// Answers the lines of the input as long as there is a whole one, and room on the page.
-pub fn serve(role: Role, state: &mut [u8], input: &[u8], out: &mut [u8]) -> Progress
-    ensures { (serving.at_desk result.taken (desk state.new (page out.new result.length)) ≡ serving.served role input.now (desk state.old (page out.old 0))) × (result.taken ≤ length input.now) }
+// Answers the lines of the input as long as there is a whole one, and room on the page; and answers how much of the input it took.
+pub fn serve(role: Role, state: &mut [u8], input: &[u8], page: &mut Page) -> usize
+    ensures { (page.new.bytes.ghost_name ≡ page.old.bytes.ghost_name) × (serving.at_desk result (desk state.new (lent page.new)) ≡ serving.served role input.now (desk state.old (lent page.old))) × (result ≤ length input.now) }
 {
+    // A `while`: how far a line goes is known once it was looked at.
     let mut from = 0;
-    let mut at = 0;
-    while has_room(out, at) {
+    while has_room(page) {
         let rest = octets::cut(input, from, input.len() - from);
         let end = words::line_end(rest);
         if end == rest.len() {
-            return Progress {
-                taken: from,
-                length: at,
-            };
+            return from;
         }
-        at = answer(role, state, octets::cut(rest, 0, end), out, at);
+        answer(role, state, octets::cut(rest, 0, end), page);
         from += end + 1;
     }
-    Progress {
-        taken: from,
-        length: at,
-    }
+    from
 }
 
-// What a turn leaves to the next, how many bytes of the page are its text, and whether more has to arrive before the next.
-#[derive(Drop)]
-pub struct Turn {
-    pub held: Held,
-    pub length: usize,
-    pub waits: bool,
-}
-
-fn answer_held(role: Role, state: &mut [u8], input: &mut [u8], held: Held, out: &mut [u8]) -> Turn
-    ensures { serving.turn (desk state.new (page out.new result.length)) (held_in input.new result.held) result.waits ≡ serving.answered_turn role (desk state.old (page out.old 0)) (held_in input.old held) }
+// A line that is refused outside of a call.
+fn refuse(page: &mut Page, fault: Fault)
+    ensures { Says page.old page.new (fault_text fault ++ ascii "\n") }
 {
-    let progress = serve(role, state, up_to(input, held.filled), out);
-    Turn {
-        held: arrivals::release(input, held, progress.taken),
-        length: progress.length,
-        waits: false,
-    }
+    unread(page, fault);
+    page.say(b"\n");
 }
 
-// A line that is refused outside of a call, alone on the page.
-fn refuse(out: &mut [u8], fault: Fault) -> usize
-    ensures { page out.new result ≡ said (page out.old 0) (fault_text fault ++ ascii "\n") }
+// What is done with the bytes that have arrived, and whether more have to arrive before the next turn.
+pub fn take_turn(role: Role, state: &mut [u8], input: &mut Input, page: &mut Page) -> bool
+    ensures { (input.new.buffer.ghost_name ≡ input.old.buffer.ghost_name) × (page.new.bytes.ghost_name ≡ page.old.bytes.ghost_name) × (serving.turn (desk state.new (lent page.new)) (waiting input.new) result ≡ serving.turned role (desk state.old (lent page.old)) (waiting input.old)) }
 {
-    let end = unread(out, 0, fault);
-    say(out, end, b"\n")
-}
-
-// What is done with the bytes that have arrived; the page is written from its start.
-pub fn take_turn(role: Role, state: &mut [u8], input: &mut [u8], held: Held, out: &mut [u8]) -> Turn
-    ensures { serving.turn (desk state.new (page out.new result.length)) (held_in input.new result.held) result.waits ≡ serving.turned role (desk state.old (page out.old 0)) (held_in input.old held) }
-{
-    match arrivals::next_step(input, held) {
-        Next::Answer => answer_held(role, state, input, held, out),
-        Next::Await => Turn {
-            held,
-            length: 0,
-            waits: true,
-        },
-        Next::Refuse => Turn {
-            held: arrivals::passing(),
-            length: refuse(out, Fault::TooLong),
-            waits: true,
-        },
-        Next::Skip => Turn {
-            held: arrivals::skip(input, held),
-            length: 0,
-            waits: false,
-        },
-        Next::Drop => Turn {
-            held: arrivals::passing(),
-            length: 0,
-            waits: true,
-        },
+    match input.next_step() {
+        Next::Answer => {
+            let taken = serve(role, state, input.bytes(), page);
+            input.release(taken);
+            false
+        }
+        Next::Await => true,
+        Next::Refuse => {
+            refuse(page, Fault::TooLong);
+            input.pass();
+            true
+        }
+        Next::Skip => {
+            input.skip();
+            false
+        }
+        Next::Drop => {
+            input.pass();
+            true
+        }
     }
 }
 
 // The input has ended. What is held then is a line without an end, which may be half of another.
-pub fn finish(input: &[u8], held: Held, out: &mut [u8]) -> usize
-    ensures { page out.new result ≡ said (page out.old 0) (serving.last_text (held_in input.now held)) }
+pub fn finish(input: &Input, page: &mut Page)
+    ensures { Says page.old page.new (serving.last_text (waiting input.now)) }
 {
-    if held.skips {
-        return 0;
+    if input.skips {
+        return;
     }
-    if up_to(input, held.filled).len() == 0 {
-        return 0;
+    if input.bytes().is_empty() {
+        return;
     }
-    refuse(out, Fault::NoEnd)
+    refuse(page, Fault::NoEnd);
 }

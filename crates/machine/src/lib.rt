@@ -1,7 +1,8 @@
-// The calls on a settlement machine. None asks anything of its caller; a refusal changes nothing.
+// The calls on a settlement machine. None asks anything of its caller; a refusal changes nothing. A message and the host's verdicts on it stay two
+// arguments: they come from two places, and the definitions take both.
 #![tactic(auto)]
 
-ghost use Rattle.std.specs.Prelude.{◌≡◌, true, length};
+ghost use Rattle.std.specs.Prelude.{◌≡◌, true};
 ghost use Rattle.wire.specs.Messages.{is_funding};
 ghost use Rattle.states.specs.Outcomes.{outcome, fresh_said};
 ghost use Rattle.records.specs.States.{base};
@@ -9,125 +10,122 @@ ghost use Rattle.records.specs.Answers.{credit_said, account_shown, standing_sai
 ghost use Rattle.records.specs.Calls as calls;
 
 use messages::{funding, order};
-use records::answers::{AccountAnswer, CreditAnswer, Reading, StandingAnswer};
+use octets::TWO;
+use records::answers::{Reading, StandingAnswer};
 use records::record::Record;
 use records::{balance, state};
 pub use settling::handle_certificate;
-use states::answers::FreshAnswer;
 use states::committee::Committee;
 use states::header;
 pub use voting::handle_order;
-use wire::answers::{BodyAnswer, FundingAnswer, Refusal, Stretch};
+use wire::answers::{Refusal, Stretch};
 use wire::kinds::{Account, Funding, Machine};
 
-pub fn make_fresh(s: &mut [u8], committee: Committee, own: Machine) -> FreshAnswer
+#[tactic(auto, unfolding(records::specs::Calls::fresh))]
+pub fn make_fresh(s: &mut [u8], committee: Committee, own: Machine) -> Result<(), Refusal>
     ensures { outcome (fresh_said result) s.new ≡ calls.fresh base s.old committee.faults own.0 }
 {
-    if s.len() != state::LENGTH {
-        return FreshAnswer::Refused(Refusal::BadState);
-    }
+    let Some(state) = s.as_mut_array() else {
+        return Err(Refusal::BadState);
+    };
     if !committee.seats(own) {
-        return FreshAnswer::Refused(Refusal::OutOfRange);
+        return Err(Refusal::OutOfRange);
     }
-    state::write_fresh(s, committee, own);
-    FreshAnswer::Made
+    state::write_fresh(state, committee, own);
+    Ok(())
 }
 
 // A funding order with a good verdict: the account is credited if the index is the next.
-fn credit(s: &mut [u8], funding: Funding) -> CreditAnswer
-    requires { (length s.old ≡ 4616) × (is_funding funding ≡ true) }
+#[tactic(auto, using(wire::proofs::Ranges::funding_range, records::proofs::Facts::formed_fits, records::proofs::Facts::fits_credited), unfolding(records::specs::Calls::credit, records::specs::Calls::credit_on))]
+fn credit(s: &mut [u8; state::LENGTH], funding: Funding) -> Result<(), Refusal>
+    requires { is_funding funding ≡ true }
     ensures { outcome (credit_said result) s.new ≡ calls.credit base s.old funding }
 {
     let account = funding.account;
-    let index = funding.index;
     if !Record::formed(s, account) {
-        return CreditAnswer::Refused(Refusal::BadState);
+        return Err(Refusal::BadState);
     }
     let record = Record::read(s, account);
-    let last = header::last_index(s);
-    if index.0 != last.0 + 1 {
-        return CreditAnswer::Refused(Refusal::NotNextIndex);
+    if funding.index.0 != header::last_index(s).0 + 1 {
+        return Err(Refusal::NotNextIndex);
     }
     if record.balance + funding.amount > Record::HIGHEST {
-        return CreditAnswer::Refused(Refusal::BadState);
+        return Err(Refusal::BadState);
     }
-    header::put_index(s, index);
+    header::put_index(s, funding.index);
     record.credited(funding.amount).write(s, account);
-    CreditAnswer::Credited
+    Ok(())
 }
 
-pub fn handle_funding(s: &mut [u8], message: &[u8], verdicts: &[u8]) -> CreditAnswer
+// An order has these two tests of its verdict too: each call shows its refusals in their order.
+#[tactic(auto, unfolding(records::specs::Calls::funding_order))]
+pub fn handle_funding(s: &mut [u8], message: &[u8], verdicts: &[u8]) -> Result<(), Refusal>
     ensures { outcome (credit_said result) s.new ≡ calls.funding_order base s.old message.now verdicts.now }
 {
-    if !state::formed(s) {
-        return CreditAnswer::Refused(Refusal::BadState);
+    let Some(state) = state::open_mut(s) else {
+        return Err(Refusal::BadState);
+    };
+    let funding = funding::read_funding(message)?;
+    if verdicts.len() != 1 {
+        return Err(Refusal::VerdictCount);
     }
-    match funding::read_funding(message) {
-        FundingAnswer::Refused(refusal) => CreditAnswer::Refused(refusal),
-        FundingAnswer::Funds(order) => {
-            if verdicts.len() != 1 {
-                return CreditAnswer::Refused(Refusal::VerdictCount);
-            }
-            if !votes::all_good(verdicts) {
-                return CreditAnswer::Refused(Refusal::BadVerdict);
-            }
-            credit(s, order)
-        }
+    if !votes::all_good(verdicts) {
+        return Err(Refusal::BadVerdict);
     }
+    credit(state, funding)
 }
 
-pub fn read_account(s: &[u8], account: Account) -> AccountAnswer
+#[tactic(auto, unfolding(records::specs::Calls::account))]
+pub fn read_account(s: &[u8], account: Account) -> Result<Reading, Refusal>
     ensures { account_shown result ≡ calls.account base s.now account.0 }
 {
-    if !state::formed(s) {
-        return AccountAnswer::Refused(Refusal::BadState);
-    }
+    let Some(state) = state::open(s) else {
+        return Err(Refusal::BadState);
+    };
     if !account.in_range() {
-        return AccountAnswer::Refused(Refusal::OutOfRange);
+        return Err(Refusal::OutOfRange);
     }
-    if !Record::formed(s, account) {
-        return AccountAnswer::Refused(Refusal::BadState);
+    if !Record::formed(state, account) {
+        return Err(Refusal::BadState);
     }
-    let record = Record::read(s, account);
-    let next = record.next;
-    AccountAnswer::Shows(Reading {
+    let record = Record::read(state, account);
+    Ok(Reading {
         used: record.used,
-        next,
+        next: record.next,
         balance: balance::signed(record.balance),
         free: balance::free(record.balance),
     })
 }
 
 // Where the body that stands for an order's sender lies: the one pending in the state, otherwise the message's own.
+#[tactic(auto, unfolding(records::specs::Calls::standing_at, records::specs::Calls::standing_on_at))]
 pub fn standing_at(message: &[u8], s: &[u8]) -> StandingAnswer
     ensures { standing_said result ≡ calls.standing_at base message.now s.now }
 {
+    // An empty part of the message: the definition that is promised has no case for none.
     let nowhere = StandingAnswer::InMessage(Stretch {
         place: 0,
         length: 0,
     });
-    if !state::formed(s) {
+    let Some(state) = state::open(s) else {
+        return nowhere;
+    };
+    let Ok(payment) = order::order_payment(message) else {
+        return nowhere;
+    };
+    let sender = payment.sender;
+    if !Record::formed(state, sender) {
         return nowhere;
     }
-    match order::order_payment(message) {
-        BodyAnswer::Refused(_) => nowhere,
-        BodyAnswer::Pays(payment) => {
-            let sender = payment.sender;
-            if !Record::formed(s, sender) {
-                return nowhere;
-            }
-            let length = Record::pending(s, sender).len();
-            if 0 < length {
-                let place = Record::place(sender) + 12;
-                return StandingAnswer::InState(Stretch { place, length });
-            }
-            let size = octets::get16(message, 1) as usize;
-            StandingAnswer::InMessage(Stretch {
-                place: 3,
-                length: size,
-            })
-        }
+    let length = Record::pending(state, sender).len();
+    if 0 < length {
+        let place = Record::place(sender) + Record::HEAD;
+        return StandingAnswer::InState(Stretch { place, length });
     }
+    StandingAnswer::InMessage(Stretch {
+        place: 3,
+        length: octets::get::<TWO>(message, 1) as usize,
+    })
 }
 
 // The body itself, uncopied.

@@ -1,3 +1,4 @@
 pub mod Onward
+pub mod Places
 pub mod Stretches
 pub mod Told

@@ -1,6 +1,6 @@
 -- What the values of a reader's answer tell: the very payment or funding order of a message that has it. Assumes nothing.
 use Prim.Native.Nat.{ℕ, ◌+◌, ◌≤◌}
-use mathlib.Core.Path.{◌≡◌, sym, ap, ◌∙◌}
+use mathlib.Core.Path.{◌≡◌, refl, sym, ap, ◌∙◌}
 use mathlib.Core.Bool.{true}
 use mathlib.Core.List.{List, [], ◌∷◌}
 use native.Mathlib.Omega.{arith}
@@ -17,6 +17,11 @@ use Rattle.wire.specs.declared.kinds.Payment.{Payment}
 use Rattle.wire.specs.declared.kinds.Funding.{Funding}
 use Rattle.wire.proofs.FieldLaws.{length_cut}
 use Rattle.wire.proofs.Laid.{order_laid, body_laid}
+use Rattle.std.specs.Borrow.{Bor}
+use Rattle.votes.specs.Reach.{Reaches, machines_of}
+use Rattle.messages.specs.Opening.{IsOpened}
+use Rattle.messages.specs.declared.certificate.Opened.{Opened}
+use Rattle.messages.proofs.Places.{votes_room}
 use Rattle.messages.proofs.Onward.{gives_held, payment_read, order_read, count_given}
 
 -- a payment from its values
@@ -46,6 +51,10 @@ order_told p m e =
     let q = payment_read (inside m) r.1 in
     let s : p ≡ payment (inside m) = ap payment_of q.2 in
     (simp (r.0, q.0, q.1), s, ap is_payment s ∙ q.1)
+
+-- the votes of an open certificate lie within the message, and their machines are its signers
+pub votes_told : {f : ℕ} {m : Bor (List ℕ)} {o : Opened} → IsOpened f m o → Reaches o.votes o.number × (machines_of o.votes o.number ≡ signers_in m.now)
+votes_told {m = m} h = rw (h.placed, h.counted) ((votes_room m.now h.laid_down, omega arith), refl)
 
 -- what an accepted order is known to have
 pub record OrderFacts (m : List ℕ) : Type 0 where

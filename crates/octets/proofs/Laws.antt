@@ -5,12 +5,11 @@ use mathlib.Core.Bool.{Bool, true, false, ◌&&◌, false≢true}
 use mathlib.Core.List.{List, [], ◌∷◌, ◌++◌, append-nil, append_assoc}
 use native.Mathlib.Omega.{arith}
 use native.Mathlib.Nat.{two-pow-succ, div-add-mod', div-lt_iff_lt-mul, mod-lt, one-le-pow, zero-add}
-use native.Mathlib.Numerals.{add-one}
 use lib.Arith.{digits_lt, digits_div, digits_mod}
 use lib.Pow.{pow-add}
 use lib.Dec.{eqb, lit<}
-use lib.ListN.{length, get_or, take, drop, set, replicate, length-replicate, replicate-append-replicate, length-append, length-take, length-drop, take-append-drop}
-use lib.Seq.{sets, length-sets, get_or-set_other, get_or-set_same, set-get_or, sets-eq, take-suc, length-take-le, drop-length, drop_at, take_at, ext_get_or, get_or-take, get_or-drop, take-add}
+use lib.ListN.{length, get_or, take, drop, set, length-append, length-take, length-drop, take-append-drop}
+use lib.Seq.{sets, length-sets, get_or-set_other, get_or-set_same, set-get_or, sets-eq, length-take-le, drop-length, drop_at, take_at, ext_get_or, get_or-take, get_or-drop, take-add}
 use borrow.Author.Tests.{eqb-true, eq-eqb}
 use Rattle.octets.specs.Octets.{span, number, bytes, cut, put, same}
 
@@ -95,13 +94,6 @@ put_number (suc k) s at b =
     put_halves k s at (hi * span k + lo)
     ∙ rw (digits_div hi (number_lt k s (at + 2 ^ k) b), digits_mod hi (number_lt k s (at + 2 ^ k) b), put_number k s at b) (put_number k s (at + 2 ^ k) b)
 
--- a copying loop's turn
-pub put_more : (s : List ℕ) (at : ℕ) (src : List ℕ) (i : ℕ) → i < length src → set (put s at (take i src)) (at + i) (get_or src i 0) ≡ put s at (take (i + 1) src)
-unfolding put
-put_more s at src i h =
-    sym (rw (add-one, take-suc src i 0 h)
-    (put_append s at (take i src) (get_or src i 0 ∷ []) ∙ ap (λ (n : ℕ). set (sets s at (take i src)) (at + n) (get_or src i 0)) (length-take-le i src (omega arith))))
-
 -- all of a list is replaced
 pub put_all : (s vs : List ℕ) → length vs ≡ length s → put s 0 vs ≡ vs
 unfolding put
@@ -139,13 +131,6 @@ number_bytes k v rest h =
     let e : cut s 0 (2 ^ k) ≡ bytes k v = take_at (bytes k v) rest (2 ^ k) m in
     ap (λ (x : List ℕ). number k x 0) (sym (put_cut s 0 (2 ^ k) (omega arith)) ∙ ap (λ (x : List ℕ). put s 0 x) e)
     ∙ number_put k s 0 v h (omega arith)
-
--- a clearing loop's turn
-pub put_zeros : (s : List ℕ) (at i : ℕ) → set (put s at (replicate i 0)) (at + i) 0 ≡ put s at (replicate (i + 1) 0)
-unfolding put
-put_zeros s at i =
-    sym (rw (← (replicate-append-replicate {A = ℕ} i 1 0))
-    (put_append s at (replicate i 0) (0 ∷ []) ∙ ap (λ (n : ℕ). set (sets s at (replicate i 0)) (at + n) 0) (length-replicate i 0)))
 
 -- bytes that are the same are equal, and the other way round
 pub same_is : (s t : List ℕ) → same s t ≡ true → s ≡ t

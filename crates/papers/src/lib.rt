@@ -1,155 +1,119 @@
-// What messages say, and messages that were written.
+// What messages say, and messages that were written, printed as in `wording`.
 #![tactic(auto)]
 
-ghost use Rattle.std.specs.Prelude.{◌≡◌, cond, eqb, ◌+◌, ◌*◌, ◌<◌, length, take};
+ghost use Rattle.std.specs.Prelude.{◌≡◌, cond, eqb, ◌+◌, ◌*◌, ◌<◌, length};
 ghost use Rattle.wire.specs.Refusals.{payment_values, funding_said};
 ghost use Rattle.wire.specs.Readers.{body_shown, order_shown};
 ghost use Rattle.wire.specs.Writers.{written};
 ghost use Rattle.wire.specs.Votes.{signers};
 ghost use Rattle.text.specs.Ascii.{ascii};
-ghost use Rattle.text.specs.Pages.{page, said, hexadecimal};
+ghost use Rattle.text.specs.Pages.{Says};
 ghost use Rattle.papers.specs.Papers as papers;
 
 use refusals::refused;
-use text::page::{say, say_decimal, say_hexadecimal, say_numbered, up_to};
-use wire::answers::{BodyAnswer, BodyRead, FundingAnswer, OrderRead, WriteAnswer};
+use text::page::{Page, up_to};
+use wire::answers::{Body, Order, Refusal};
 use wire::kinds::{Funding, Note, Payment};
 
 // The answer of a writer, and what it wrote into.
-pub fn wrote(out: &mut [u8], at: usize, answer: WriteAnswer, bytes: &[u8]) -> usize
-    ensures { page out.new result ≡ said (page out.old at) (papers.written_text (written answer bytes.now)) }
+pub fn wrote(page: &mut Page, answer: Result<usize, Refusal>, bytes: &[u8])
+    ensures { Says page.old page.new (papers.written_text (written answer bytes.now)) }
 {
     match answer {
-        WriteAnswer::Wrote(n) => say_hexadecimal(out, at, up_to(bytes, n)),
-        WriteAnswer::Refused(refusal) => refused(out, at, refusal),
+        Ok(n) => page.say_hexadecimal(up_to(bytes, n)),
+        Err(refusal) => refused(page, refusal),
     }
 }
 
-fn pays(out: &mut [u8], at: usize, kind: u64) -> usize
-    ensures { page out.new result ≡ said (page out.old at) (cond (eqb kind 0) (ascii " pays account ") (ascii " pays ledger account ")) }
+#[tactic(auto, using(std::proofs::lemmas::Bool::Decides::nat_tests), unfolding(text::specs::Ascii::ascii))]
+fn pays(page: &mut Page, kind: u64)
+    ensures { Says page.old page.new (cond (eqb kind 0) (ascii " pays account ") (ascii " pays ledger account ")) }
 {
-    if kind == 0 {
-        return say(out, at, b" pays account ");
+    match kind {
+        0 => page.say(b" pays account "),
+        _ => page.say(b" pays ledger account "),
     }
-    say(out, at, b" pays ledger account ")
 }
 
-fn payment(out: &mut [u8], at: usize, payment: Payment) -> usize
-    ensures { page out.new result ≡ said (page out.old at) (papers.payment_text (payment_values payment)) }
+fn payment(page: &mut Page, payment: Payment)
+    ensures { Says page.old page.new (papers.payment_text (payment_values payment)) }
 {
-    let sent = say_numbered(out, at, b"account ", payment.sender.0);
-    let told = pays(out, sent, payment.kind);
-    let received = say_decimal(out, told, payment.recipient);
-    let next = say_numbered(out, received, b", amount ", payment.amount);
-    say_numbered(out, next, b", sequence ", payment.sequence.0)
+    page.say_numbered(b"account ", payment.sender.0);
+    pays(page, payment.kind);
+    page.say_decimal(payment.recipient);
+    page.say_numbered(b", amount ", payment.amount);
+    page.say_numbered(b", sequence ", payment.sequence.0);
 }
 
-// An array's length is known where it is lent as one.
-fn note_bytes(out: &mut [u8], at: usize, n: usize, bytes: &[u8; 32]) -> usize
-    ensures { page out.new result ≡ said (page out.old at) (hexadecimal (take n bytes.now)) }
-{
-    say_hexadecimal(out, at, up_to(bytes, n))
-}
-
-fn note(out: &mut [u8], at: usize, note: Note) -> usize
-    ensures { page out.new result ≡ said (page out.old at) (papers.note_text note) }
+fn note(page: &mut Page, note: Note)
+    ensures { Says page.old page.new (papers.note_text note) }
 {
     if note.length == 0 {
-        return say(out, at, b", no note");
+        return page.say(b", no note");
     }
-    let next = say(out, at, b", note ");
-    let bytes = note.bytes;
-    note_bytes(out, next, note.length, &bytes)
+    page.say(b", note ");
+    page.say_hexadecimal(up_to(&note.bytes, note.length));
 }
 
-pub fn body(out: &mut [u8], at: usize, read: BodyRead) -> usize
-    ensures { page out.new result ≡ said (page out.old at) (papers.body_text (body_shown read)) }
+pub fn body(page: &mut Page, read: Result<Body, Refusal>)
+    ensures { Says page.old page.new (papers.body_text (body_shown read)) }
 {
-    let answer = read.answer;
-    match answer {
-        BodyAnswer::Refused(refusal) => refused(out, at, refusal),
-        BodyAnswer::Pays(said) => {
-            let named = say(out, at, b"body: ");
-            let paid = payment(out, named, said);
-            let held = read.note;
-            note(out, paid, held)
+    match read {
+        Ok(body) => {
+            page.say(b"body: ");
+            payment(page, body.payment);
+            note(page, body.note);
         }
+        Err(refusal) => refused(page, refusal),
     }
 }
 
-fn signature(out: &mut [u8], at: usize, bytes: &[u8; 64]) -> usize
-    ensures { page out.new result ≡ said (page out.old at) (hexadecimal bytes.now) }
+pub fn order(page: &mut Page, read: Result<Order, Refusal>)
+    ensures { Says page.old page.new (papers.order_read_text (order_shown read)) }
 {
-    say_hexadecimal(out, at, bytes)
-}
-
-pub fn order(out: &mut [u8], at: usize, read: OrderRead) -> usize
-    ensures { page out.new result ≡ said (page out.old at) (papers.order_read_text (order_shown read)) }
-{
-    let answer = read.answer;
-    match answer {
-        BodyAnswer::Refused(refusal) => refused(out, at, refusal),
-        BodyAnswer::Pays(said) => {
-            let named = say(out, at, b"order: ");
-            let paid = payment(out, named, said);
-            let held = read.note;
-            let noted = note(out, paid, held);
-            let next = say(out, noted, b", signature ");
-            let bytes = read.signature;
-            signature(out, next, &bytes)
+    match read {
+        Ok(order) => {
+            page.say(b"order: ");
+            payment(page, order.payment);
+            note(page, order.note);
+            page.say(b", signature ");
+            page.say_hexadecimal(&order.signature);
         }
+        Err(refusal) => refused(page, refusal),
     }
 }
 
 // The machines of n votes, the first at `place` and each 68 bytes behind the one before.
-fn machines(out: &mut [u8], at: usize, message: &[u8], place: usize, n: usize) -> usize
+fn machines(page: &mut Page, message: &[u8], place: usize, n: usize)
     requires { place + 68 * n < length message.now + 68 }
-    ensures { page out.new result ≡ said (page out.old at) (papers.machines_named (signers message.now place 68 n)) }
+    ensures { Says page.old page.new (papers.machines_named (signers message.now place 68 n)) }
 {
-    let mut next = at;
-    let mut from = place;
-    let mut i = 0;
-    while i < n {
-        next = say_numbered(out, next, b" ", octets::get8(message, from));
-        from += 68;
-        i += 1;
+    for i in 0..n {
+        page.say_numbered(b" ", message[place + 68 * i] as u64);
     }
-    next
 }
 
-// A certificate that was accepted.
-pub fn certificate(
-    out: &mut [u8],
-    at: usize,
-    message: &[u8],
-    certified: Payment,
-    held: Note,
-    place: usize,
-    votes: usize,
-) -> usize
+// A certificate that was accepted: what its body says, and its votes.
+pub fn certificate(page: &mut Page, message: &[u8], body: Body, place: usize, votes: usize)
     requires { place + 68 * votes < length message.now + 68 }
-    ensures { page out.new result ≡ said (page out.old at) (papers.certified_text (payment_values certified) held (signers message.now place 68 votes)) }
+    ensures { Says page.old page.new (papers.certified_text (payment_values body.payment) body.note (signers message.now place 68 votes)) }
 {
-    let named = say(out, at, b"certificate: ");
-    let paid = payment(out, named, certified);
-    let noted = note(out, paid, held);
-    let next = say(out, noted, b", votes by");
-    machines(out, next, message, place, votes)
+    page.say(b"certificate: ");
+    payment(page, body.payment);
+    note(page, body.note);
+    page.say(b", votes by");
+    machines(page, message, place, votes);
 }
 
-fn funds(out: &mut [u8], at: usize, funding: Funding) -> usize
-    ensures { page out.new result ≡ said (page out.old at) (papers.funding_read_text (funding_said (FundingAnswer.Funds funding))) }
-{
-    let numbered = say_numbered(out, at, b"funding order ", funding.index.0);
-    let next = say_numbered(out, numbered, b": account ", funding.account.0);
-    say_numbered(out, next, b", amount ", funding.amount)
-}
-
-pub fn funding(out: &mut [u8], at: usize, answer: FundingAnswer) -> usize
-    ensures { page out.new result ≡ said (page out.old at) (papers.funding_read_text (funding_said answer)) }
+pub fn funding(page: &mut Page, answer: Result<Funding, Refusal>)
+    ensures { Says page.old page.new (papers.funding_read_text (funding_said answer)) }
 {
     match answer {
-        FundingAnswer::Funds(order) => funds(out, at, order),
-        FundingAnswer::Refused(refusal) => refused(out, at, refusal),
+        Ok(funding) => {
+            page.say_numbered(b"funding order ", funding.index.0);
+            page.say_numbered(b": account ", funding.account.0);
+            page.say_numbered(b", amount ", funding.amount);
+        }
+        Err(refusal) => refused(page, refusal),
     }
 }

@@ -1,6 +1,7 @@
 -- What the tests of a record and a state say of their numbers. Assumes nothing.
-use Rattle.std.proofs.Common.{◌≡◌, ℕ, suc, ◌+◌, ◌-◌, ◌≤◌, Bool, true, leb, List, ◌++◌, length, replicate, ap, ◌∙◌, arith, length-append, eqb-true, leb-true}
+use Rattle.std.proofs.Common.{◌≡◌, ℕ, suc, ◌+◌, ◌-◌, ◌≤◌, Bool, true, false, Option, None, Some, MatchOption, ◌≢◌, leb, List, ◌++◌, length, replicate, ap, ◌∙◌, arith, length-append, eqb-true, leb-true}
 use mathlib.Core.Bool.{and-eq-true_iff}
+use Rattle.std.specs.Array.{IsWholeChunk}
 use Rattle.octets.specs.Octets.{one, number, bytes, put}
 use Rattle.octets.proofs.Laws.{length_bytes}
 use Rattle.wire.specs.Numbers.{is_faults}
@@ -67,6 +68,12 @@ fits_credited r n f h = record { waiting = f.waiting; next = f.next; balance = h
 pub state_length_lem : (s : List ℕ) → is_state base s ≡ true → length s ≡ 4616
 unfolding is_state
 state_length_lem s e = eqb-true _ _ (both _ _ e).0
+
+-- such a state is an array
+pub opened : {X : Type 0} (now : X → List ℕ) (o : Option X) (s : List ℕ) → is_state base s ≡ true → MatchOption o (length s ≢ 4616) (λ x. IsWholeChunk s (now x) 4616)
+    → MatchOption o (is_state base s ≡ false) (λ x. (now x ≡ s) × (is_state base s ≡ true))
+opened now None s t h = absurd (h (state_length_lem s t))
+opened now (Some x) s t h = (h.same, t)
 
 pub state_faults : (s : List ℕ) → is_state base s ≡ true → is_faults (number one s 0) ≡ true
 unfolding is_state is_base_header

@@ -1,12 +1,11 @@
 -- 01, Refusal numbers and Rules: the number and values of each case of each answer of a machine.
-use Rattle.std.specs.Prelude.{ℕ, List, [], ◌∷◌, ℤ, pos}
-use Rattle.wire.specs.Refusals.{Said, gives, refuses, refusal_number}
-use Rattle.states.specs.Outcomes.{done}
+use Rattle.std.specs.Prelude.{ℕ, List, [], ◌∷◌, ℤ, pos, Result, Ok, Err}
+use Rattle.wire.specs.Refusals.{Said, gives, refuses, refusal_number, said}
+use Rattle.wire.specs.declared.answers.Refusal.{Refusal}
 use Rattle.records.specs.Records.{bit}
-use Rattle.records.specs.declared.answers.OrderAnswer.{OrderAnswer}
-use Rattle.records.specs.declared.answers.ConfirmAnswer.{ConfirmAnswer}
-use Rattle.records.specs.declared.answers.CreditAnswer.{CreditAnswer}
-use Rattle.records.specs.declared.answers.AccountAnswer.{AccountAnswer}
+use Rattle.records.specs.declared.answers.Vote.{Vote}
+use Rattle.records.specs.declared.answers.Confirmation.{Confirmation}
+use Rattle.records.specs.declared.answers.Reading.{Reading}
 use Rattle.records.specs.declared.answers.StandingAnswer.{StandingAnswer}
 
 -- vote, new
@@ -32,21 +31,24 @@ abbrev pub already : ℕ → Said
 already votes = already_with (votes ∷ [])
 
 -- the answer on an order
-abbrev pub order_said : OrderAnswer → Said
-order_said OrderAnswer.VoteNew = vote_new
-order_said OrderAnswer.VoteRepeated = vote_repeated
-order_said (OrderAnswer.Refused r) = refuses (refusal_number r)
+abbrev pub vote_values : Vote → List ℕ
+vote_values Vote.New = 0 ∷ []
+vote_values Vote.Repeated = 1 ∷ []
+
+abbrev pub order_said : Result Vote Refusal → Said
+order_said = said vote_values
 
 -- the answer on a certificate
-abbrev pub confirm_said : ConfirmAnswer → Said
-confirm_said (ConfirmAnswer.Confirmed votes) = confirmed votes
-confirm_said (ConfirmAnswer.Already votes) = already votes
-confirm_said (ConfirmAnswer.Refused r) = refuses (refusal_number r)
+abbrev pub confirmation_values : Confirmation → List ℕ
+confirmation_values (Confirmation.Confirmed votes) = 0 ∷ votes ∷ []
+confirmation_values (Confirmation.Already votes) = 1 ∷ votes ∷ []
+
+abbrev pub confirm_said : Result Confirmation Refusal → Said
+confirm_said = said confirmation_values
 
 -- the answer on a funding order
-abbrev pub credit_said : CreditAnswer → Said
-credit_said CreditAnswer.Credited = done
-credit_said (CreditAnswer.Refused r) = refuses (refusal_number r)
+abbrev pub credit_said : Result (Unit {0}) Refusal → Said
+credit_said = said (λ _. [])
 
 -- what reading an account gives: in use, next sequence, free to spend; beside it the balance, which has a sign
 pub record AccountShown : Type 0 where
@@ -58,9 +60,9 @@ abbrev pub unshown : ℕ → AccountShown
 unshown n = record { answer = refuses n; balance = pos 0 }
 
 -- the answer on reading an account
-abbrev pub account_shown : AccountAnswer → AccountShown
-account_shown (AccountAnswer.Shows r) = record { answer = gives (bit r.used ∷ r.next.0 ∷ r.free ∷ []); balance = r.balance }
-account_shown (AccountAnswer.Refused r) = unshown (refusal_number r)
+abbrev pub account_shown : Result Reading Refusal → AccountShown
+account_shown (Ok r) = record { answer = gives (bit r.used ∷ r.next.0 ∷ r.free ∷ []); balance = r.balance }
+account_shown (Err r) = unshown (refusal_number r)
 
 -- in the message, or in the state: 0 or 1, place, length
 abbrev pub in_message : ℕ → ℕ → Said

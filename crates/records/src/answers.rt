@@ -1,30 +1,23 @@
-// What the calls on a machine answer.
-use wire::answers::{Refusal, Stretch};
+// What the calls on a machine answer where they do not refuse.
+use wire::answers::Stretch;
 use wire::kinds::Sequence;
 
-#[derive(Drop)]
-pub enum OrderAnswer {
-    VoteNew,
-    VoteRepeated,
-    Refused(Refusal),
+// A vote, and whether it was given before.
+#[derive(Clone, Copy)]
+pub enum Vote {
+    New,
+    Repeated,
 }
 
 // With the number of votes counted.
-#[derive(Drop)]
-pub enum ConfirmAnswer {
+#[derive(Clone, Copy)]
+pub enum Confirmation {
     Confirmed(u64),
     Already(u64),
-    Refused(Refusal),
-}
-
-#[derive(Drop)]
-pub enum CreditAnswer {
-    Credited,
-    Refused(Refusal),
 }
 
 // What one reads of an account. Free to spend is the balance, or 0 if it is negative.
-#[derive(Drop)]
+#[derive(Clone, Copy)]
 pub struct Reading {
     pub used: bool,
     pub next: Sequence,
@@ -32,14 +25,8 @@ pub struct Reading {
     pub free: u64,
 }
 
-#[derive(Drop)]
-pub enum AccountAnswer {
-    Shows(Reading),
-    Refused(Refusal),
-}
-
 // Where the body that stands for an order's sender lies.
-#[derive(Drop)]
+#[derive(Clone, Copy)]
 pub enum StandingAnswer {
     InMessage(Stretch),
     InState(Stretch),

@@ -8,14 +8,14 @@ use crate::record::Record;
 pub(crate) fn lift(w: u64) -> u64
     ensures { result ≡ balances.lift w }
 {
-    std::num::wrapping_add_u64(w, Record::NOUGHT)
+    w.wrapping_add(Record::NOUGHT)
 }
 
 // And back.
 pub(crate) fn lower(lifted: u64) -> u64
     ensures { result ≡ balances.lower lifted }
 {
-    std::num::wrapping_sub_u64(lifted, Record::NOUGHT)
+    lifted.wrapping_sub(Record::NOUGHT)
 }
 
 // With its sign.
@@ -23,15 +23,12 @@ pub fn signed(lifted: u64) -> i64
     requires { lifted ≤ balances.highest }
     ensures { result ≡ balances.signed lifted }
 {
-    (lifted as i64) - 1_000_000_000_000_000
+    lifted as i64 - Record::NOUGHT as i64
 }
 
 // Free to spend.
 pub fn free(lifted: u64) -> u64
     ensures { result ≡ balances.free lifted }
 {
-    if lifted < Record::NOUGHT {
-        return 0;
-    }
-    lifted - Record::NOUGHT
+    lifted.saturating_sub(Record::NOUGHT)
 }

@@ -1,17 +1,16 @@
 // An account's record, read out, changed and written back as a value.
 ghost use Rattle.std.specs.Prelude.{◌≡◌, ◌+◌, ◌<◌, ◌≤◌, true, length};
-ghost use Rattle.octets.specs.Octets as octets;
-ghost use Rattle.wire.specs.Readers.{held};
 ghost use Rattle.records.specs.Balances.{highest};
 ghost use Rattle.records.specs.Records as records;
 ghost use Rattle.records.specs.States.{base, place, record_of, is_formed, pending_of, with_record};
 
-use crate::balance;
+use crate::{balance, state};
 use messages::body;
-use wire::answers::BodyAnswer;
-use wire::kinds::{Account, Sequence};
+use octets::{EIGHT, ONE, TWO};
+use wire::kinds::{Account, Sequence, held};
 
-// The balance is lifted; `waiting` is the length of the pending body, 0 if there is none.
+// The balance is lifted; `waiting` is the length of the pending body, 0 if there is none. It stands beside an array that has room for each body: there
+// is no heap.
 #[derive(Drop)]
 pub struct Record {
     pub used: bool,
@@ -21,78 +20,34 @@ pub struct Record {
     pub pending: [u8; 57],
 }
 
-fn bit(b: bool) -> u64
-    ensures { (result ≡ records.bit b) × (result < 256) }
-{
-    if b { 1 } else { 0 }
-}
-
+// Whether the numbers of a record are in range.
+#[tactic(auto, unfolding(crate::specs::Records::in_range))]
 fn in_range(used: u64, waiting: u64, next: u64, balance: u64) -> bool
     ensures { result ≡ records.in_range used waiting next balance }
 {
-    if used > 1 {
-        return false;
-    }
-    if waiting > 57 {
-        return false;
-    }
-    if next > Record::MOST_NEXT {
-        return false;
-    }
-    balance <= Record::HIGHEST
+    used <= 1 && waiting <= 57 && next <= Record::MOST_NEXT && balance <= Record::HIGHEST
 }
 
 // Whether a pending body may stand in the record of this account.
 fn pending_formed(account: Account, next: Sequence, pending: &[u8]) -> bool
     ensures { result ≡ records.is_pending account.0 next.0 pending.now }
 {
-    if pending.len() == 0 {
+    if pending.is_empty() {
         return true;
     }
-    match body::read_payment(pending) {
-        BodyAnswer::Refused(_) => false,
-        BodyAnswer::Pays(payment) => {
-            let sender = payment.sender;
-            if sender.0 != account.0 {
-                return false;
-            }
-            payment.sequence.0 == next.0
-        }
-    }
-}
-
-// At most 57 bytes, zeros after them.
-fn filled(part: &[u8]) -> [u8; 57]
-    requires { length part.now ≤ 57 }
-    ensures { result ≡ held 57 part.now }
-{
-    let mut bytes = [0u8; 57];
-    octets::copy(&mut bytes, 0, part);
-    bytes
-}
-
-fn put_head(s: &mut [u8], at: usize, used: bool, waiting: usize, next: Sequence, balance: u64)
-    requires { (at + 12 ≤ length s.old) × (waiting ≤ 57) × (next.0 ≤ 4096) }
-    ensures { s.new ≡ octets.put s.old at (records.head_bytes used waiting next.0 balance) }
-{
-    octets::put8(s, at, bit(used));
-    octets::put8(s, at + 1, waiting as u64);
-    octets::put16(s, at + 2, next.0);
-    octets::put64(s, at + 4, balance::lower(balance));
-}
-
-// The length of an array is known where it is lent as one.
-fn put_pending(s: &mut [u8], at: usize, pending: &[u8; 57])
-    requires { at + 57 ≤ length s.old }
-    ensures { (s.new ≡ octets.put s.old at pending.now) × (length pending.now ≡ 57) }
-{
-    octets::copy(s, at, pending);
+    let Ok(payment) = body::read_payment(pending) else {
+        return false;
+    };
+    payment.sender.0 == account.0 && payment.sequence.0 == next.0
 }
 
 impl Record {
     pub const FIRST: usize = 8;
 
     pub const LENGTH: usize = 72;
+
+    // What stands before the pending body.
+    pub const HEAD: usize = 12;
 
     pub const MOST_NEXT: u64 = 4096;
 
@@ -114,7 +69,8 @@ impl Record {
         }
     }
 
-    // Where the record of an account stands.
+    // Where the record of an account stands. That there is one is a clause of five methods: a type that says it would be made anew at each of their
+    // callers, which have the fact at hand.
     pub fn place(account: Account) -> usize
         requires { account.0 ≤ 63 }
         ensures { (result ≡ place base account.0) × (result ≤ 4544) }
@@ -123,83 +79,73 @@ impl Record {
     }
 
     // Whether the record of an account is well formed.
-    pub fn formed(s: &[u8], account: Account) -> bool
-        requires { (length s.now ≡ 4616) × (account.0 ≤ 63) }
+    #[tactic(auto, using(crate::proofs::Facts::in_range_lem), unfolding(crate::specs::Records::is_record))]
+    pub fn formed(s: &[u8; state::LENGTH], account: Account) -> bool
+        requires { account.0 ≤ 63 }
         ensures { result ≡ is_formed base s.now account.0 }
     {
         let at = Record::place(account);
-        let used = octets::get8(s, at);
-        let waiting = octets::get8(s, at + 1);
-        let next = octets::get16(s, at + 2);
-        let balance = balance::lift(octets::get64(s, at + 4));
-        if !in_range(used, waiting, next, balance) {
-            return false;
-        }
+        let used = octets::get::<ONE>(s, at);
+        let waiting = octets::get::<ONE>(s, at + 1);
+        let next = octets::get::<TWO>(s, at + 2);
+        let balance = balance::lift(octets::get::<EIGHT>(s, at + 4));
         let n = waiting as usize;
-        if !pending_formed(account, Sequence(next), octets::cut(s, at + 12, n)) {
-            return false;
-        }
-        if !octets::zeros(octets::cut(s, at + 12 + n, 60 - n)) {
-            return false;
-        }
-        if used == 1 {
-            return true;
-        }
-        octets::zeros(octets::cut(s, at, Record::LENGTH))
+        in_range(used, waiting, next, balance)
+            && pending_formed(
+                account,
+                Sequence(next),
+                octets::cut(s, at + Record::HEAD, n),
+            )
+            && octets::zeros(octets::cut(s, at + Record::HEAD + n, 60 - n))
+            && (used == 1 || octets::zeros(octets::cut(s, at, Record::LENGTH)))
     }
 
-    pub fn read(s: &[u8], account: Account) -> Record
-        requires { (length s.now ≡ 4616) × (account.0 ≤ 63) }
+    pub fn read(s: &[u8; state::LENGTH], account: Account) -> Record
+        requires { account.0 ≤ 63 }
         ensures { result ≡ record_of base s.now account.0 }
     {
         let at = Record::place(account);
-        let used = octets::get8(s, at) == 1;
-        let waiting = octets::get8(s, at + 1) as usize;
-        let next = Sequence(octets::get16(s, at + 2));
-        let balance = balance::lift(octets::get64(s, at + 4));
-        let pending = filled(octets::cut(s, at + 12, 57));
         Record {
-            used,
-            waiting,
-            next,
-            balance,
-            pending,
+            used: octets::get::<ONE>(s, at) == 1,
+            waiting: octets::get::<ONE>(s, at + 1) as usize,
+            next: Sequence(octets::get::<TWO>(s, at + 2)),
+            balance: balance::lift(octets::get::<EIGHT>(s, at + 4)),
+            pending: held(octets::cut(s, at + Record::HEAD, 57)),
         }
     }
 
     // The pending body of an account, uncopied; empty if there is none.
-    pub fn pending(s: &[u8], account: Account) -> &[u8]
-        requires { (length s.now ≡ 4616) × (account.0 ≤ 63) × (is_formed base s.now account.0 ≡ true) }
+    pub fn pending(s: &[u8; state::LENGTH], account: Account) -> &[u8]
+        requires { (account.0 ≤ 63) × (is_formed base s.now account.0 ≡ true) }
         ensures { result.now ≡ pending_of base s.now account.0 }
     {
         let at = Record::place(account);
-        let n = octets::get8(s, at + 1) as usize;
-        octets::cut(s, at + 12, n)
+        let n = octets::get::<ONE>(s, at + 1) as usize;
+        octets::cut(s, at + Record::HEAD, n)
     }
 
-    pub fn write(self, s: &mut [u8], account: Account)
-        requires { (length s.old ≡ 4616) × (account.0 ≤ 63) × records.Fits self }
+    pub fn write(self, s: &mut [u8; state::LENGTH], account: Account)
+        requires { (account.0 ≤ 63) × records.Fits self }
         ensures { s.new ≡ with_record base s.old account.0 self }
     {
         let at = Record::place(account);
-        let pending = self.pending;
-        put_head(s, at, self.used, self.waiting, self.next, self.balance);
-        put_pending(s, at + 12, &pending);
+        octets::put::<ONE>(s, at, u64::from(self.used));
+        octets::put::<ONE>(s, at + 1, self.waiting as u64);
+        octets::put::<TWO>(s, at + 2, self.next.0);
+        octets::put::<EIGHT>(s, at + 4, balance::lower(self.balance));
+        octets::copy(s, at + Record::HEAD, &self.pending);
         octets::clear(s, at + 69, 3);
     }
 
-    // With this body pending.
+    // With this body pending. Its length is a clause, which each caller has from the body's reader.
     pub fn holding(self, body: &[u8]) -> Record
         requires { length body.now ≤ 57 }
         ensures { result ≡ records.holding self body.now }
     {
-        let next = self.next;
         Record {
-            used: self.used,
             waiting: body.len(),
-            next,
-            balance: self.balance,
-            pending: filled(body),
+            pending: held(body),
+            ..self
         }
     }
 
@@ -208,14 +154,11 @@ impl Record {
         requires { (amount ≤ self.balance) × (self.next.0 ≤ 4096) }
         ensures { result ≡ records.paid self amount }
     {
-        let fresh = Record::fresh();
-        let pending = fresh.pending;
         Record {
             used: true,
-            waiting: fresh.waiting,
             next: Sequence(self.next.0 + 1),
             balance: self.balance - amount,
-            pending,
+            ..Record::fresh()
         }
     }
 
@@ -224,14 +167,10 @@ impl Record {
         requires { self.balance + amount ≤ highest }
         ensures { result ≡ records.credited self amount }
     {
-        let next = self.next;
-        let pending = self.pending;
         Record {
             used: true,
-            waiting: self.waiting,
-            next,
             balance: self.balance + amount,
-            pending,
+            ..self
         }
     }
 }

@@ -1,20 +1,20 @@
 // Refusals in words, with their numbers.
 #![tactic(auto)]
 
-ghost use Rattle.std.specs.Prelude.{◌≡◌, ◌≤◌, ◌++◌};
+ghost use Rattle.std.specs.Prelude.{◌≡◌, ◌≤◌, ◌-◌};
 ghost use Rattle.wire.specs.Refusals.{refusal_number};
-ghost use Rattle.text.specs.Ascii.{ascii};
-ghost use Rattle.text.specs.Pages.{page, said, decimal};
+ghost use Rattle.text.specs.Pages.{Says};
+ghost use Rattle.text.specs.Words as words;
 ghost use Rattle.refusals.specs.Refusals as refusals;
 
-use text::page::{say, say_numbered};
+use text::page::Page;
 use text::words::line_at;
 use wire::answers::Refusal;
 
 // Why a line is no call.
-#[derive(Drop)]
+#[derive(Clone, Copy)]
 pub enum Fault {
-    Empty,
+    Empty = 101,
     TooLong,
     NoCall,
     WordCount,
@@ -22,19 +22,35 @@ pub enum Fault {
     NoEnd,
 }
 
-fn say_number(out: &mut [u8], at: usize, number: u64) -> usize
-    ensures { page out.new result ≡ said (page out.old at) (ascii "refused " ++ decimal number ++ ascii ": ") }
-{
-    let next = say_numbered(out, at, b"refused ", number);
-    say(out, next, b": ")
+// The number of the first of them.
+const FIRST_FAULT: u64 = 101;
+
+impl Fault {
+    fn number(self) -> u64
+        ensures { result ≡ refusals.fault_number self }
+    {
+        self as u64
+    }
 }
 
-// What a number means, a line for each from 1 on.
-fn say_reason(out: &mut [u8], at: usize, number: u64) -> usize
-    requires { 1 ≤ number }
-    ensures { page out.new result ≡ said (page out.old at) (refusals.reason number) }
+// A number, and the line that says what it means: there is one for each number from `first` on.
+// Arms of a match would each lend the page, and their proof costs a hundred times that of one text of lines.
+fn say_refusal(page: &mut Page, number: u64, first: u64, reasons: &[u8])
+    requires { first ≤ number }
+    ensures { Says page.old page.new (refusals.refusal number (words.line_at (number - first) reasons.now)) }
 {
-    let why = line_at(
+    page.say_numbered(b"refused ", number);
+    page.say(b": ");
+    page.say(line_at(reasons, (number - first) as usize));
+}
+
+pub fn refused(page: &mut Page, refusal: Refusal)
+    ensures { Says page.old page.new (refusals.refused_text (refusal_number refusal)) }
+{
+    say_refusal(
+        page,
+        refusal.number(),
+        1,
         b"\
             tags, lengths or the end are not as laid down, or the message is too long\n\
             a value is out of range or no number\n\
@@ -55,38 +71,16 @@ fn say_reason(out: &mut [u8], at: usize, number: u64) -> usize
             all funding indexes are used\n\
             the output is too small\n\
         ",
-        number as usize - 1,
     );
-    say(out, at, why)
 }
 
-pub fn refused(out: &mut [u8], at: usize, refusal: Refusal) -> usize
-    ensures { page out.new result ≡ said (page out.old at) (refusals.refused_text (refusal_number refusal)) }
+pub fn unread(page: &mut Page, fault: Fault)
+    ensures { Says page.old page.new (refusals.fault_text fault) }
 {
-    let number = refusal.number();
-    let next = say_number(out, at, number);
-    say_reason(out, next, number)
-}
-
-fn fault_number(fault: Fault) -> u64
-    ensures { result ≡ refusals.fault_number fault }
-{
-    match fault {
-        Fault::Empty => 101,
-        Fault::TooLong => 102,
-        Fault::NoCall => 103,
-        Fault::WordCount => 104,
-        Fault::NotHexadecimal => 105,
-        Fault::NoEnd => 106,
-    }
-}
-
-// What it means, a line for each from 101 on.
-fn say_fault(out: &mut [u8], at: usize, number: u64) -> usize
-    requires { 101 ≤ number }
-    ensures { page out.new result ≡ said (page out.old at) (refusals.fault_reason number) }
-{
-    let why = line_at(
+    say_refusal(
+        page,
+        fault.number(),
+        FIRST_FAULT,
         b"\
             the line is empty\n\
             the line is too long\n\
@@ -95,15 +89,5 @@ fn say_fault(out: &mut [u8], at: usize, number: u64) -> usize
             not hexadecimal\n\
             the line was cut off\n\
         ",
-        number as usize - 101,
     );
-    say(out, at, why)
-}
-
-pub fn unread(out: &mut [u8], at: usize, fault: Fault) -> usize
-    ensures { page out.new result ≡ said (page out.old at) (refusals.fault_text fault) }
-{
-    let number = fault_number(fault);
-    let next = say_number(out, at, number);
-    say_fault(out, next, number)
 }

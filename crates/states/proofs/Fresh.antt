@@ -16,6 +16,9 @@ first_put (suc n) f h =
     let e : suc n - 1 ≡ n = omega arith in
     rw e
 
+pub fresh_filled : {t u : List ℕ} (s : List ℕ) (f : ℕ) → 1 ≤ length s → t ≡ replicate (length s) 0 → u ≡ put t 0 (bytes one f) → u ≡ fresh_bytes (length s) f
+fresh_filled s f h a b = b ∙ ap (λ (l : List ℕ). put l 0 (bytes one f)) a ∙ first_put (length s) f h
+
+-- the same where the zeros were put over the state
 pub fresh_put : {t u : List ℕ} (s : List ℕ) (f : ℕ) → 1 ≤ length s → t ≡ put s 0 (replicate (length s) 0) → u ≡ put t 0 (bytes one f) → u ≡ fresh_bytes (length s) f
-fresh_put s f h a b =
-    b ∙ ap (λ (l : List ℕ). put l 0 (bytes one f)) (a ∙ put_all s (replicate (length s) 0) (length-replicate (length s) 0)) ∙ first_put (length s) f h
+fresh_put s f h a b = fresh_filled s f h (a ∙ put_all s (replicate (length s) 0) (length-replicate (length s) 0)) b

@@ -1,8 +1,8 @@
 -- 01, Refusal numbers: what a call on a state answers, and every byte of the state afterwards. A refusal changes nothing.
-use Rattle.std.specs.Prelude.{ℕ, List, [], eqb}
+use Rattle.std.specs.Prelude.{ℕ, List, [], eqb, Result}
 use Rattle.octets.specs.Tests.{need}
-use Rattle.wire.specs.Refusals.{Said, gives, refuses, refusal_number}
-use Rattle.states.specs.declared.answers.FreshAnswer.{FreshAnswer}
+use Rattle.wire.specs.Refusals.{Said, gives, refuses, said}
+use Rattle.wire.specs.declared.answers.Refusal.{Refusal}
 
 -- an answer, and the state afterwards
 pub record Outcome : Type 0 where
@@ -26,6 +26,5 @@ abbrev pub done : Said
 done = gives []
 
 -- the answer on making a fresh state
-abbrev pub fresh_said : FreshAnswer → Said
-fresh_said FreshAnswer.Made = done
-fresh_said (FreshAnswer.Refused r) = refuses (refusal_number r)
+abbrev pub fresh_said : Result (Unit {0}) Refusal → Said
+fresh_said = said (λ _. [])

@@ -28,9 +28,6 @@ impl Committee {
     pub fn seats(self, machine: Machine) -> bool
         ensures { result ≡ is_machine self.faults machine.0 }
     {
-        if !self.in_range() {
-            return false;
-        }
-        machine.0 <= 3 * self.faults
+        self.in_range() && machine.0 <= 3 * self.faults
     }
 }

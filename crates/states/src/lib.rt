@@ -1,6 +1,5 @@
 // What the state of a machine and that of the ledger have in common: the committee, and the header's first fields.
 #![tactic(auto)]
 
-pub mod answers;
 pub mod committee;
 pub mod header;

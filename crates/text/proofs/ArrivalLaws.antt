@@ -1,16 +1,30 @@
 -- What a buffer holds after its front was done with. Assumes nothing.
-use Prim.Native.Nat.{ℕ, ◌+◌, ◌≤◌}
+use Prim.Native.Nat.{ℕ, ◌+◌, ◌-◌, ◌≤◌}
 use mathlib.Core.Path.{◌≡◌, sym, ap, ◌∙◌}
 use mathlib.Core.Bool.{false}
 use mathlib.Core.List.{List, [], ◌++◌, append-nil}
 use native.Mathlib.Omega.{arith}
 use lib.ListN.{length, take, drop, length-take, length-drop, drop_of_length-le}
 use lib.Seq.{take-add}
+use Rattle.std.specs.List.{copy_within}
+use Rattle.std.proofs.lemmas.List.{drop-take, take_min}
+use Rattle.std.proofs.lemmas.List.Edits.{sets-eq}
 use Rattle.octets.specs.Octets.{put}
 use Rattle.octets.proofs.Laws.{cut_put}
 use Rattle.text.specs.Words.{line_end}
-use Rattle.text.specs.Arrivals.{arrived, held_in, Grows}
-use Rattle.text.specs.declared.arrivals.Held.{Held}
+use Rattle.text.specs.Arrivals.{Held, arrived, held_in, Grows}
+
+-- the first bytes, without those at their very front, are moved to the front
+pub moved_front : (s : List ℕ) (from filled : ℕ) → from ≤ length (take filled s) → copy_within s from (length (take filled s)) 0 ≡ put s 0 (drop from (take filled s))
+unfolding put
+moved_front s from filled h =
+    let end = length (take filled s) in
+    let n = length-take filled s in
+    let whole : from + (end - from) ≡ end = omega (arith, h) in
+    let kept : take (end - from) (drop from s) ≡ drop from (take filled s) =
+    sym (drop-take from (end - from) s) ∙ ap (drop from) (ap (λ (k : ℕ). take k s) (whole ∙ n) ∙ take_min filled s) in
+    let size : length (drop from (take filled s)) ≡ end - from = length-drop from (take filled s) in
+    rw (sets-eq (drop from (take filled s)) s 0 (omega (arith, n, size)), kept, size)
 
 -- what was moved to the front is held
 pub moved : {b : List ℕ} {n : ℕ} (s : List ℕ) (from filled : ℕ) → b ≡ put s 0 (drop from (take filled s)) → n ≡ length (drop from (take filled s)) → arrived (take n b) false ≡ arrived (drop from (take filled s)) false

@@ -7,7 +7,7 @@ use native.Mathlib.Nat.{sub-zero, suc-sub-suc}
 use native.Mathlib.Numerals.{add-one}
 use native.Mathlib.Omega.{arith}
 use lib.Dec.{ltb}
-use lib.IntN.{ℤ, pos, negsuc}
+use lib.IntN.{ℤ, pos, negsuc, nat_abs}
 use lib.ListN.{length, get_or, take, drop, length-append, length-take, drop_of_length-le}
 use lib.Seq.{take_all, take-nil, drop-cons}
 use lib.Signed.{lt_z}
@@ -39,9 +39,16 @@ said_append p a b =
 pub said_then : {q r : Page} (p : Page) (a b : List ℕ) → q ≡ said p a → r ≡ said q b → r ≡ said p (a ++ b)
 said_then p a b first second = second ∙ ap (λ (s : Page). said s b) first ∙ said_append p a b
 
+-- and for pages that are written on in place, which stay the same lent bytes: `Says`
+pub says_then : {A : Type 0} {i j k : A} {q r : Page} (p : Page) (a b : List ℕ) → (j ≡ i) × (q ≡ said p a) → (k ≡ j) × (r ≡ said q b) → (k ≡ i) × (r ≡ said p (a ++ b))
+says_then p a b first second = (second.0 ∙ first.0, said_then p a b first.1 second.1)
+
 -- the same where the second text is itself two, as a text and a number are
 pub said_then_two : {q r : Page} (p : Page) (a b c : List ℕ) → q ≡ said p a → r ≡ said q (b ++ c) → r ≡ said p (a ++ b ++ c)
 said_then_two p a b c first second = rw (append_assoc a b c) (said_then p a (b ++ c) first second)
+
+pub says_then_two : {A : Type 0} {i j k : A} {q r : Page} (p : Page) (a b c : List ℕ) → (j ≡ i) × (q ≡ said p a) → (k ≡ j) × (r ≡ said q (b ++ c)) → (k ≡ i) × (r ≡ said p (a ++ b ++ c))
+says_then_two p a b c first second = (second.0 ∙ first.0, said_then_two p a b c first.1 second.1)
 
 -- a loop's turn: once the front of a text is said, what is left of it gives the page that all of it would
 pub said_rest : {q r : Page} (p : Page) (a b : List ℕ) → q ≡ said p a → said p (a ++ b) ≡ r → said q b ≡ r
@@ -106,6 +113,11 @@ decimal_digit n h = spelled_digit n n h
 pub decimal_more : (n : ℕ) → 10 ≤ n → decimal n ≡ decimal (n / 10) ++ (digit (n % 10) ∷ [])
 decimal_more n h =
     spelled_more n n h ∙ ap (λ (front : List ℕ). front ++ (digit (n % 10) ∷ [])) (spelled_any n (suc (n / 10)) (n / 10) (omega arith) (omega arith))
+
+-- how far a number is from 0 is its absolute value
+pub magnitude_abs : (n : ℤ) → nat_abs n ≡ magnitude n
+magnitude_abs (pos n) = refl
+magnitude_abs (negsuc n) = refl
 
 -- a number below 0 has a sign, and any other has none
 pub signed_below : (n : ℤ) → lt_z n (pos 0) ≡ true → signed n ≡ ascii "-" ++ decimal (magnitude n)

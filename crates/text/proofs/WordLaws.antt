@@ -1,18 +1,24 @@
 -- What a turn of a loop over the bytes of a word or a line shows, and laws of words: the next one, its length, the bytes that it means. Assumes nothing.
 use Prim.Native.Nat.{ℕ, zero, suc, ◌+◌, ◌-◌, ◌*◌, ◌/◌, ◌%◌, ◌<◌, ◌≤◌}
-use mathlib.Core.Bool.{Bool, true, false, not, ◌&&◌}
-use mathlib.Core.Path.{◌≡◌, refl, sym, ◌∙◌}
+use mathlib.Core.Bool.{Bool, true, false, not, cond, ◌&&◌}
+use mathlib.Core.Path.{◌≡◌, refl, sym, ap, ◌∙◌}
 use mathlib.Core.List.{List, [], ◌∷◌}
 use native.Mathlib.Omega.{arith}
 use native.Mathlib.Numerals.{add-one}
-use lib.ListN.{length, drop, length-take, length-drop, drop_of_length-le}
+use lib.ListN.{length, drop, set, length-take, length-drop, drop_of_length-le}
 use lib.Seq.{drop-cons, take_all}
 use lib.Dec.{ltb, eqb}
-use borrow.Author.Tests.{not-false, leb-true, ltb-true, eqb-true, lt-ltb, le-ltb, le-leb, lt-leb, eq-eqb, ne_eqb}
-use Rattle.octets.specs.Octets.{number, one, cut, put, bytes}
-use Rattle.octets.proofs.Laws.{put_append, length_put, cut_put}
+use borrow.Author.Tests.{not-false, leb-true, ltb-true, ltb-false, eqb-true, lt-ltb, le-ltb, le-leb, ne_eqb}
+use Rattle.std.specs.Prelude.{Option, Some, None}
+use Rattle.std.specs.Option.{unwrap_or}
+use Rattle.std.specs.Char.{is_ascii_digit}
+use Rattle.std.specs.List.{position_or_len, list_all}
+use Rattle.std.proofs.lemmas.List.Sums.{prefix_len-le-length}
+use Rattle.octets.specs.Tests.{need}
+use Rattle.octets.specs.Octets.{number, one, cut, put}
+use Rattle.octets.proofs.Laws.{length_put, cut_put}
 use Rattle.octets.proofs.TestLaws.{both}
-use Rattle.text.specs.Words.{is_kind, leading, behind_word, word_at, has_words, worth, no_number, number_of, nibble, are_digits, unhexed, is_stroke, is_bytes, is_line, line_end}
+use Rattle.text.specs.Words.{is_kind, leading, behind_word, word_at, has_words, worth, no_number, number_of, decimal_of, nibble, are_digits, unhexed, is_stroke, is_bytes, is_line, line_end}
 
 -- what is left from i on is the byte there, and what is left behind it
 pub next_byte : (s : List ℕ) (i : ℕ) → i < length s → drop i s ≡ number one s i ∷ drop (i + 1) s
@@ -23,31 +29,44 @@ next_byte s i h = rw (add-one, drop-cons s i 0)
 pub cut_rest : (s : List ℕ) (n : ℕ) → cut s n (length s - n) ≡ drop n s
 cut_rest s n = take_all (length s - n) (drop n s) (simp length-drop (omega arith))
 
--- a byte of the kind is one more at the front; another one ends it, and so does the end
-pub leading_more : (blank : Bool) (s : List ℕ) (i : ℕ) → i < length s → is_kind blank (number one s i) ≡ true → i + leading blank (drop i s) ≡ i + 1 + leading blank (drop (i + 1) s)
+-- where the first byte that passes stands, or the length where none does
+pub found : {A : Type 0} {r : Option ℕ} {n : ℕ} (test : A → Bool) (s : List A) → r ≡ cond (ltb (position_or_len test s) (length s)) (Some (position_or_len test s)) None → n ≡ unwrap_or r (length s) → (n ≡ position_or_len test s) × (n ≤ length s)
+found test s e m = rw (m, e) (go (ltb at (length s)) refl)
+  where
+    at : ℕ
+    at = position_or_len test s
+
+    most : at ≤ length s
+    most = prefix_len-le-length (λ x. not (test x)) s
+
+    go : (b : Bool) → ltb at (length s) ≡ b → (unwrap_or (cond b (Some at) None) (length s) ≡ at) × (unwrap_or (cond b (Some at) None) (length s) ≤ length s)
+    go true t = (refl, most)
+    go false t = let h = ltb-false at (length s) t in (omega (arith, h, most), omega arith)
+
+-- how many bytes are blanks, or are none: up to the first that is not of the kind; and a line ends at its first line feed
+pub leading_found : (blank : Bool) (s : List ℕ) → position_or_len (λ b. not (is_kind blank b)) s ≡ leading blank s
 unfolding leading
-leading_more blank s i h k = rw (next_byte s i h, k) (omega arith)
+leading_found blank [] = refl
+leading_found blank (b ∷ bs) = go (is_kind blank b) (leading_found blank bs)
+  where
+    go : (k : Bool) → position_or_len (λ b. not (is_kind blank b)) bs ≡ leading blank bs → cond (not (not k)) (1 + position_or_len (λ b. not (is_kind blank b)) bs) 0 ≡ need k 0 (suc (leading blank bs))
+    go true e = omega (arith, e)
+    go false e = refl
 
-pub leading_stop : (blank : Bool) (s : List ℕ) (i : ℕ) → i < length s → is_kind blank (number one s i) ≡ false → i + leading blank (drop i s) ≡ i
-unfolding leading
-leading_stop blank s i h k = rw (next_byte s i h, k) (omega arith)
-
-pub leading_end : (blank : Bool) (s : List ℕ) (i : ℕ) → length s ≤ i → i + leading blank (drop i s) ≡ i
-unfolding leading
-leading_end blank s i h = rw (drop_of_length-le s h) (omega arith)
-
--- the first line goes on up to a line feed
-pub line_more : (s : List ℕ) (i : ℕ) → i < length s → (number one s i ≡ 10 → ⊥) → i + line_end (drop i s) ≡ i + 1 + line_end (drop (i + 1) s)
+pub line_found : (s : List ℕ) → position_or_len (λ b. eqb b 10) s ≡ line_end s
 unfolding line_end
-line_more s i h k = rw (next_byte s i h, ne_eqb _ _ k) (omega arith)
+line_found [] = refl
+line_found (b ∷ bs) = go (eqb b 10) (line_found bs)
+  where
+    go : (k : Bool) → position_or_len (λ b. eqb b 10) bs ≡ line_end bs → cond (not k) (1 + position_or_len (λ b. eqb b 10) bs) 0 ≡ cond k 0 (suc (line_end bs))
+    go true e = refl
+    go false e = omega (arith, e)
 
-pub line_stop : (s : List ℕ) (i : ℕ) → i < length s → number one s i ≡ 10 → i + line_end (drop i s) ≡ i
-unfolding line_end
-line_stop s i h k = rw (next_byte s i h, eq-eqb _ _ k) (omega arith)
-
-pub line_over : (s : List ℕ) (i : ℕ) → length s ≤ i → i + line_end (drop i s) ≡ i
-unfolding line_end
-line_over s i h = rw (drop_of_length-le s h) (omega arith)
+-- all of a word are digits where each has a value
+pub digits_all : (s : List ℕ) → list_all (λ b. ltb (nibble b) 16) s ≡ are_digits s
+unfolding are_digits
+digits_all [] = refl
+digits_all (b ∷ bs) = ap (λ (rest : Bool). ltb (nibble b) 16 && rest) (digits_all bs)
 
 -- a word but the first is counted from behind the first
 pub word_next : (k : ℕ) (line : List ℕ) → (k ≡ 0 → ⊥) → word_at k line ≡ word_at (k - 1) (behind_word line)
@@ -80,13 +99,9 @@ pub worth_more : (n : ℕ) (s : List ℕ) (i : ℕ) → i < length s → 48 ≤ 
 unfolding worth
 worth_more n s i h low high few = rw (next_byte s i h, le-leb _ _ low, le-leb _ _ high, lt-ltb _ _ few)
 
-pub worth_low : (n : ℕ) (s : List ℕ) (i : ℕ) → i < length s → number one s i < 48 → worth n (drop i s) ≡ no_number
+pub worth_other : (n : ℕ) (s : List ℕ) (i : ℕ) → i < length s → is_ascii_digit (number one s i) ≡ false → worth n (drop i s) ≡ no_number
 unfolding worth
-worth_low n s i h low = rw (next_byte s i h, lt-leb _ _ low)
-
-pub worth_high : (n : ℕ) (s : List ℕ) (i : ℕ) → i < length s → 57 < number one s i → worth n (drop i s) ≡ no_number
-unfolding worth
-worth_high n s i h high = rw (next_byte s i h, le-leb 48 (number one s i) (omega arith), lt-leb _ _ high)
+worth_other n s i h other = rw (next_byte s i h) (grind arith)
 
 pub worth_many : (n : ℕ) (s : List ℕ) (i : ℕ) → i < length s → 48 ≤ number one s i → number one s i ≤ 57 → 100_000_000_000_000_000 ≤ n → worth n (drop i s) ≡ no_number
 unfolding worth
@@ -96,18 +111,20 @@ pub worth_end : (n : ℕ) (s : List ℕ) (i : ℕ) → length s ≤ i → worth 
 unfolding worth
 worth_end n s i h = rw (drop_of_length-le s h)
 
--- all are digits where the next is one and those behind it are
-pub digits_more : (s : List ℕ) (i : ℕ) → i < length s → nibble (number one s i) < 16 → are_digits (drop i s) ≡ are_digits (drop (i + 1) s)
-unfolding are_digits
-digits_more s i h k = rw (next_byte s i h, lt-ltb _ _ k)
+-- what a word means as a number alone: nothing where it is none
+pub no_decimal : (word : List ℕ) → number_of word ≡ no_number → None ≡ decimal_of word
+no_decimal word e = rw e
 
-pub digits_stop : (s : List ℕ) (i : ℕ) → i < length s → nibble (number one s i) ≡ 16 → are_digits (drop i s) ≡ false
-unfolding are_digits
-digits_stop s i h k = rw (next_byte s i h, k)
+pub a_decimal : {n : ℕ} (word : List ℕ) → number_of word ≡ n → n < no_number → Some n ≡ decimal_of word
+a_decimal {n} word e h = rw (e, ne_eqb n no_number (λ f. omega (arith, h, f)))
 
-pub digits_end : (s : List ℕ) (i : ℕ) → length s ≤ i → are_digits (drop i s) ≡ true
-unfolding are_digits
-digits_end s i h = rw (drop_of_length-le s h)
+-- and so with the word for none beside it
+pub decimal_number : {n : ℕ} (word : List ℕ) → n ≡ unwrap_or (decimal_of word) no_number → n ≡ number_of word
+decimal_number word e = e ∙ go (eqb (number_of word) no_number) refl
+  where
+    go : (b : Bool) → eqb (number_of word) no_number ≡ b → unwrap_or (cond b None (Some (number_of word))) no_number ≡ number_of word
+    go true t = sym (eqb-true (number_of word) no_number t)
+    go false t = refl
 
 -- each of a word of digits is one
 pub digit_small : (s : List ℕ) (i : ℕ) → are_digits s ≡ true → i < length s → nibble (number one s i) < 16
@@ -125,19 +142,13 @@ bytes_digits word b stroke = let d = both _ _ (rw stroke at b) in (d.1, eqb-true
 abbrev pub pair : List ℕ → ℕ → ℕ
 pair s i = nibble (number one s (2 * i)) * 16 + nibble (number one s (2 * i + 1))
 
-pub pair_fits : (s : List ℕ) (i : ℕ) → are_digits s ≡ true → 2 * i + 1 < length s → pair s i < 256
-pair_fits s i d h =
-    let high = digit_small s (2 * i) d (omega arith) in
-    let low = digit_small s (2 * i + 1) d h in
-    omega arith
-
 -- a pair is put as one byte, and what is left behind it
-pub unhex_more : (out s : List ℕ) (i : ℕ) → 2 * i + 1 < length s → put out i (unhexed (drop (2 * i) s)) ≡ put (put out i (bytes one (pair s i))) (i + 1) (unhexed (drop (2 * (i + 1)) s))
-unfolding unhexed bytes
+pub unhex_more : (out s : List ℕ) (i : ℕ) → 2 * i + 1 < length s → put out i (unhexed (drop (2 * i) s)) ≡ put (set out i (pair s i)) (i + 1) (unhexed (drop (2 * (i + 1)) s))
+unfolding unhexed put
 unhex_more out s i h =
     let e : 2 * (i + 1) ≡ 2 * i + 1 + 1 = omega arith in
-    rw (next_byte s (2 * i) (omega arith), next_byte s (2 * i + 1) h, e)
-    (put_append out i (pair s i ∷ []) (unhexed (drop (2 * i + 1 + 1) s)))
+    let next : i + 1 ≡ suc i = omega arith in
+    rw (next_byte s (2 * i) (omega arith), next_byte s (2 * i + 1) h, e, next)
 
 pub unhex_end : (out s : List ℕ) (i : ℕ) → length s ≤ 2 * i → put out i (unhexed (drop (2 * i) s)) ≡ out
 unfolding unhexed put

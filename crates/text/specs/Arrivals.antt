@@ -2,7 +2,7 @@
 use Rattle.std.specs.Prelude.{ℕ, ◌+◌, ◌≡◌, Bool, true, false, cond, List, [], ◌++◌, length, take, drop, ltb}
 use Rattle.octets.specs.Tests.{need}
 use Rattle.text.specs.Words.{is_line, line_end}
-use Rattle.text.specs.declared.arrivals.Held.{Held}
+use Rattle.text.specs.declared.arrivals.Input.{Input}
 use Rattle.text.specs.declared.arrivals.Next.{Next}
 
 -- what has arrived and is not done with; where it `skips`, it goes on with a line that was refused as too long
@@ -14,9 +14,22 @@ pub record Arrived : Type 0 where
 abbrev pub arrived : List ℕ → Bool → Arrived
 arrived bytes skips = record { bytes = bytes; skips = skips }
 
+-- how many bytes of a buffer are held, and whether they go on with such a line
+pub record Held : Type 0 where
+  pub filled : ℕ
+  pub skips : Bool
+
 -- as it stands at the front of a buffer
 abbrev pub held_in : List ℕ → Held → Arrived
 held_in buffer held = arrived (take held.filled buffer) held.skips
+
+-- what an input has arrived of
+abbrev pub waiting : Input → Arrived
+waiting input = held_in input.buffer.now (record { filled = input.filled; skips = input.skips })
+
+-- the same buffer, in which this is left
+abbrev pub Leaves : Input → Input → Arrived → Type 0
+Leaves before after left = (after.buffer.ghost_name ≡ before.buffer.ghost_name) × (waiting after ≡ left)
 
 -- more has arrived, behind what had
 abbrev pub Grows : Arrived → Arrived → Type 0

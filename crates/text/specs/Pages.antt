@@ -1,7 +1,8 @@
 -- Text written behind one another, and how numbers and bytes are spelled.
-use Rattle.std.specs.Prelude.{ℕ, zero, suc, ◌+◌, ◌-◌, ◌/◌, ◌%◌, cond, List, [], ◌∷◌, ◌++◌, length, take, ltb, ℤ, pos, negsuc}
+use Rattle.std.specs.Prelude.{ℕ, ◌≡◌, zero, suc, ◌+◌, ◌-◌, ◌/◌, ◌%◌, cond, List, [], ◌∷◌, ◌++◌, length, take, ltb, ℤ, pos, negsuc}
 use Rattle.octets.specs.Octets.{put}
 use Rattle.text.specs.Ascii.{ascii}
+use Rattle.text.specs.declared.page.Page.{Page as LentPage}
 
 -- bytes, of which the first are text
 pub record Page : Type 0 where
@@ -19,6 +20,11 @@ fitting p text = take (length p.bytes - p.length) text
 -- the page with a text behind what stands there; what does not fit is left out
 unfoldable pub said : Page → List ℕ → Page
 said p text = page (put p.bytes p.length (fitting p text)) (p.length + length (fitting p text))
+
+-- the same lent bytes, with a text behind what stood on them
+abbrev pub Says : LentPage → LentPage → List ℕ → Type 0
+Says before after text =
+    (after.bytes.ghost_name ≡ before.bytes.ghost_name) × (page after.bytes.now after.length ≡ said (page before.bytes.now before.length) text)
 
 -- a digit of a number below 16: 0 to 9, a to f
 abbrev pub digit : ℕ → ℕ

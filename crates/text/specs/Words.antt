@@ -1,5 +1,5 @@
 -- The words of a line, and what a word means as a number or as bytes.
-use Rattle.std.specs.Prelude.{ℕ, zero, suc, ◌+◌, ◌-◌, ◌*◌, ◌%◌, Bool, true, false, ◌&&◌, ◌||◌, not, cond, List, [], ◌∷◌, length, take, drop, leb, ltb, eqb}
+use Rattle.std.specs.Prelude.{ℕ, zero, suc, ◌+◌, ◌-◌, ◌*◌, ◌%◌, Bool, true, false, ◌&&◌, ◌||◌, not, cond, List, [], ◌∷◌, length, take, drop, leb, ltb, eqb, Option, Some, None}
 use Rattle.octets.specs.Octets.{same}
 use Rattle.octets.specs.Tests.{need}
 use Rattle.text.specs.Ascii.{ascii}
@@ -55,6 +55,10 @@ worth n (d ∷ ds) =
 unfoldable pub number_of : List ℕ → ℕ
 number_of word = need (ltb 0 (length word)) no_number (worth 0 word)
 
+-- and the number alone, where it is one
+abbrev pub decimal_of : List ℕ → Option ℕ
+decimal_of word = cond (eqb (number_of word) no_number) None (Some (number_of word))
+
 -- the value of a hexadecimal digit, or 16
 unfoldable pub nibble : ℕ → ℕ
 nibble c =
@@ -65,6 +69,10 @@ nibble c =
     (cond (ltb c 97) 16
     (cond (leb c 102) (c - 87)
     16)))))
+
+-- and the value alone, where it is one
+abbrev pub nibble_of : ℕ → Option ℕ
+nibble_of c = cond (ltb (nibble c) 16) (Some (nibble c)) None
 
 -- all are hexadecimal digits
 unfoldable pub are_digits : List ℕ → Bool
@@ -92,6 +100,10 @@ bytes_of word = cond (is_stroke word) [] (unhexed word)
 -- a line has at most 4,096 bytes
 abbrev pub is_line : List ℕ → Bool
 is_line line = leb (length line) 4_096
+
+-- a text as a line, where it is one
+abbrev pub line_of : List ℕ → Option (List ℕ)
+line_of text = cond (is_line text) (Some text) None
 
 -- where the first line ends: the place of its line feed, or the length where there is none
 unfoldable pub line_end : List ℕ → ℕ

@@ -2,5 +2,6 @@
 #![tactic(auto)]
 
 pub mod arrivals;
+pub mod line;
 pub mod page;
 pub mod words;

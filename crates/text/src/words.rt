@@ -1,46 +1,35 @@
 // The words of a line, uncopied, and what they mean.
-ghost use Rattle.std.specs.Prelude.{◌≡◌, true, ◌≤◌, ◌*◌, ◌%◌, length, drop};
+ghost use Rattle.std.specs.Prelude.{◌≡◌, true, ◌≤◌, ◌<◌, ◌+◌, ◌*◌, ◌%◌, length, drop};
 ghost use Rattle.octets.specs.Octets.{put, cut};
 ghost use Rattle.text.specs.Words as words;
 
 // What a word means that is no number.
-pub const NO_NUMBER: u64 = 18446744073709551615;
+pub const NO_NUMBER: u64 = u64::MAX;
 
 // The longest line, and how many bytes its digits can mean.
 pub const LINE: usize = 4096;
 
 pub const BYTES: usize = 2048;
 
-fn is_blank(byte: u64) -> bool
+fn is_blank(byte: u8) -> bool
     ensures { result ≡ words.is_blank byte }
 {
-    if byte == 32 {
-        return true;
-    }
-    if byte == 9 {
-        return true;
-    }
-    byte == 13
+    matches!(byte, b' ' | b'\t' | b'\r')
 }
 
-fn is_kind(blank: bool, byte: u64) -> bool
+fn is_kind(blank: bool, byte: u8) -> bool
     ensures { result ≡ words.is_kind blank byte }
 {
-    if is_blank(byte) { blank } else { !blank }
+    is_blank(byte) == blank
 }
 
 // How many bytes at the front are blanks, or are none.
 fn leading(blank: bool, s: &[u8]) -> usize
     ensures { (result ≡ words.leading blank s.now) × (result ≤ length s.now) }
 {
-    let mut i = 0;
-    while i < s.len() {
-        if !is_kind(blank, octets::get8(s, i)) {
-            return i;
-        }
-        i += 1;
-    }
-    i
+    s.iter()
+        .position(|byte| !is_kind(blank, *byte))
+        .unwrap_or(s.len())
 }
 
 // The bytes from n on.
@@ -88,76 +77,58 @@ pub fn has_words(line: &[u8], n: usize) -> bool
     if n == 0 {
         return false;
     }
-    if word(line, n - 1).len() == 0 {
+    if word(line, n - 1).is_empty() {
         return false;
     }
-    word(line, n).len() == 0
+    word(line, n).is_empty()
 }
 
-// A word of decimal digits as a number, or NO_NUMBER.
+// A word of decimal digits as a number. It has no more than eighteen of them, leading zeros apart.
+pub fn decimal(word: &[u8]) -> Option<u64>
+    ensures { result ≡ words.decimal_of word.now }
+{
+    if word.is_empty() {
+        return None;
+    }
+    let mut value = 0;
+    for byte in word {
+        if !byte.is_ascii_digit() {
+            return None;
+        }
+        if 100_000_000_000_000_000 <= value {
+            return None;
+        }
+        value = value * 10 + (*byte - b'0') as u64;
+    }
+    Some(value)
+}
+
+// The same, or NO_NUMBER: a line says of such a word that it is out of every range.
 pub fn number(word: &[u8]) -> u64
     ensures { result ≡ words.number_of word.now }
 {
-    if word.len() == 0 {
-        return NO_NUMBER;
-    }
-    let mut value = 0;
-    let mut i = 0;
-    while i < word.len() {
-        let digit = octets::get8(word, i);
-        if digit < 48 {
-            return NO_NUMBER;
-        }
-        if 57 < digit {
-            return NO_NUMBER;
-        }
-        if 100_000_000_000_000_000 <= value {
-            return NO_NUMBER;
-        }
-        value = value * 10 + (digit - 48);
-        i += 1;
-    }
-    value
+    decimal(word).unwrap_or(NO_NUMBER)
 }
 
-// The value of a hexadecimal digit, or 16.
-fn nibble(c: u64) -> u64
-    ensures { (result ≡ words.nibble c) × (result ≤ 16) }
+// The value of a hexadecimal digit.
+fn nibble(c: u8) -> Option<u8>
+    ensures { result ≡ words.nibble_of c }
 {
-    if c < 48 {
-        return 16;
+    match c {
+        b'0'..=b'9' => Some(c - b'0'),
+        b'A'..=b'F' => Some(c - b'A' + 10),
+        b'a'..=b'f' => Some(c - b'a' + 10),
+        _ => None,
     }
-    if c <= 57 {
-        return c - 48;
-    }
-    if c < 65 {
-        return 16;
-    }
-    if c <= 70 {
-        return c - 55;
-    }
-    if c < 97 {
-        return 16;
-    }
-    if c <= 102 {
-        return c - 87;
-    }
-    16
 }
 
 fn are_digits(word: &[u8]) -> bool
     ensures { result ≡ words.are_digits word.now }
 {
-    let mut i = 0;
-    while i < word.len() {
-        if nibble(octets::get8(word, i)) == 16 {
-            return false;
-        }
-        i += 1;
-    }
-    true
+    word.iter().all(|c| nibble(*c).is_some())
 }
 
+// `same` is the definition's word, here and where an operator's words are told apart.
 fn is_stroke(word: &[u8]) -> bool
     ensures { result ≡ words.is_stroke word.now }
 {
@@ -177,18 +148,23 @@ pub fn is_bytes(word: &[u8]) -> bool
     are_digits(word)
 }
 
+// The byte that two digits mean.
+fn pair(high: u8, low: u8) -> u8
+    requires { (words.nibble high < 16) × (words.nibble low < 16) }
+    ensures { result ≡ words.nibble high * 16 + words.nibble low }
+{
+    nibble(high).unwrap() * 16 + nibble(low).unwrap()
+}
+
 // Puts the bytes that pairs of digits mean at the start of out, and answers how many there are.
 fn unhex(out: &mut [u8], word: &[u8]) -> usize
     requires { (words.are_digits word.now ≡ true) × (length word.now % 2 ≡ 0) × (length word.now ≤ 2 * length out.old) }
     ensures { (out.new ≡ put out.old 0 (words.unhexed word.now)) × (result ≡ length (words.unhexed word.now)) × (result ≤ length out.old) }
 {
+    // By index: over `out` and `chunks_exact(2)` in step, `pair-requires` did not prove.
     let n = word.len() / 2;
-    let mut i = 0;
-    while i < n {
-        let high = nibble(octets::get8(word, 2 * i));
-        let low = nibble(octets::get8(word, 2 * i + 1));
-        octets::put8(out, i, high * 16 + low);
-        i += 1;
+    for i in 0..n {
+        out[i] = pair(word[2 * i], word[2 * i + 1]);
     }
     n
 }
@@ -208,14 +184,7 @@ pub fn read_bytes(out: &mut [u8], word: &[u8]) -> usize
 pub fn line_end(s: &[u8]) -> usize
     ensures { (result ≡ words.line_end s.now) × (result ≤ length s.now) }
 {
-    let mut i = 0;
-    while i < s.len() {
-        if s[i] == 10 {
-            return i;
-        }
-        i += 1;
-    }
-    i
+    s.iter().position(|byte| *byte == b'\n').unwrap_or(s.len())
 }
 
 // What stands behind the first line and its line feed.
@@ -229,7 +198,8 @@ fn behind_line(s: &[u8]) -> &[u8]
     from(s, end + 1)
 }
 
-// The line of a text, counted from 0; empty where it has not so many.
+// The line of a text, counted from 0; empty where it has not so many. One function over lines and words would take how a piece ends and what
+// stands behind it as two closures.
 pub fn line_at(s: &[u8], k: usize) -> &[u8]
     ensures { result.now ≡ words.line_at k s.now }
 {

@@ -1,6 +1,6 @@
 -- What a turn of a loop over votes or verdicts shows: the tally and the test go on with the rest of the list. Assumes nothing.
 use Prim.Native.Nat.{ℕ, zero, suc, ◌+◌, ◌-◌, ◌*◌, ◌%◌, ◌^◌, ◌≤◌, ◌<◌}
-use mathlib.Core.Bool.{Bool, true, false, ◌&&◌, and-true, and-false, and_assoc, false≢true}
+use mathlib.Core.Bool.{Bool, true, false, ◌&&◌, and-true, and-false, and_assoc}
 use mathlib.Core.Path.{◌≡◌, refl, sym, ap, ◌∙◌}
 use mathlib.Core.List.{List, [], ◌∷◌}
 use native.Mathlib.Nat.{zero-add, add_comm, one-mul, mul-suc, lt_of_lt_of_le, two-pow-succ}
@@ -8,7 +8,9 @@ use native.Mathlib.Numerals.{add-one}
 use native.Mathlib.Omega.{arith}
 use lib.ListN.{length, get_or, drop, drop_of_length-le}
 use lib.Seq.{drop-cons}
-use lib.Dec.{leb}
+use lib.Dec.{leb, eqb}
+use Rattle.std.specs.Prelude.{Some, None}
+use Rattle.std.specs.List.{list_all}
 use lib.Pow.{pow_mono, shl_exact}
 use lib.Bits.{bit_or, or_shifted_r}
 use lib.Count.{ones, ones_cat}
@@ -17,23 +19,24 @@ use Rattle.octets.specs.Octets.{one, number}
 use Rattle.wire.specs.Votes.{signers, known, rising, rising_from, good}
 use Rattle.octets.specs.Tests.{need}
 use Rattle.wire.specs.Refusals.{refuses}
+use Rattle.votes.specs.Reach.{machines_of}
 use Rattle.votes.specs.Tally.{Tallied, counted, AllSigned, enough, votes_judged, votes_given}
 use Rattle.votes.specs.declared.Tally.{Tally}
-use Rattle.votes.specs.declared.Signed.{Signed}
+use Rattle.votes.specs.declared.Votes.{Votes}
 
 -- a machine above the last is unknown and has no bit
-pub counted_unknown : (t : Tally) (k last : ℕ) → last < k
-    → record { known = false; rising = t.rising && leb t.least k; least = k + 1; mask = t.mask } ≡ counted t k last
+pub counted_unknown : {rises : Bool} (t : Tally) (k last : ℕ) → rises ≡ (t.rising && leb t.least k) → last < k
+    → record { known = false; rising = rises; least = k + 1; mask = t.mask } ≡ counted t k last
 unfolding counted
-counted_unknown t k last h = simp (lt-leb k last h, and-false)
+counted_unknown t k last e h = simp (e, lt-leb k last h, and-false)
 
 -- a machine up to the last has its bit, which fits the mask
-pub counted_known : (t : Tally) (k last : ℕ) → k ≤ last → last < 16
-    → record { known = t.known; rising = t.rising && leb t.least k; least = k + 1; mask = bit_or t.mask ((1 * 2 ^ k) % 65536) } ≡ counted t k last
+pub counted_known : {rises : Bool} (t : Tally) (k last : ℕ) → rises ≡ (t.rising && leb t.least k) → k ≤ last → last < 16
+    → record { known = t.known; rising = rises; least = k + 1; mask = bit_or t.mask ((1 * 2 ^ k) % 65536) } ≡ counted t k last
 unfolding counted
-counted_known t k last h l =
+counted_known t k last e h l =
     let bit : (1 * 2 ^ k) % 65536 ≡ 2 ^ k = shl_exact {a = 1} 1 k 16 (omega arith) (omega arith) ∙ one-mul (2 ^ k) in
-    simp (bit, le-leb k last h, and-true)
+    simp (e, bit, le-leb k last h, and-true)
 
 -- what holds of both tests holds of each
 both_true : (a b : Bool) → (a && b) ≡ true → (a ≡ true) × (b ≡ true)
@@ -104,61 +107,60 @@ tally_given f t ok ks tallied =
 pub counting_fine : {last least mask k : ℕ} {all rest : List ℕ} → Counting last all (fine_tally least mask) (k ∷ rest) → k ≤ last → least ≤ k → last < 16
     → Counting last all (fine_tally (k + 1) (bit_or mask ((1 * 2 ^ k) % 65536))) rest
 counting_fine {last} {least} {mask} {k} {all} {rest} p h r l =
-    let e = rw (le-leb least k r) at (counted_known (fine_tally least mask) k last h l) in
+    let e = rw (le-leb least k r) at (counted_known (fine_tally least mask) k last refl h l) in
     rw e (counting_more last k all rest (fine_tally least mask) p)
 
 -- a pass over machines and verdicts ends at a vote with which it is not
-module _ {last mask : ℕ} {all verdicts : List ℕ} where
-  stops : (known last all && (rising all && good verdicts)) ≡ false → AllSigned record { fine = false; mask = mask } last all verdicts
-  stops e = record { all_fine = sym e; count = λ z. absurd (false≢true z) }
-
-  pub unknown_stops : {least k : ℕ} {rest : List ℕ} → Counting last all (fine_tally least mask) (k ∷ rest) → last < k
-      → AllSigned record { fine = false; mask = mask } last all verdicts
+module _ {last mask : ℕ} {all : List ℕ} (verdicts : List ℕ) where
+  pub unknown_stops : {least k : ℕ} {rest : List ℕ} → Counting last all (fine_tally least mask) (k ∷ rest) → last < k → AllSigned None last all verdicts
   unfolding known
-  unknown_stops {k = k} p h = stops (rw (p.known_so_far, lt-leb k last h))
+  unknown_stops {k = k} p h = rw (p.known_so_far, lt-leb k last h)
 
-  pub falling_stops : {least k : ℕ} {rest : List ℕ} → Counting last all (fine_tally least mask) (k ∷ rest) → k < least
-      → AllSigned record { fine = false; mask = mask } last all verdicts
+  pub falling_stops : {least k : ℕ} {rest : List ℕ} → Counting last all (fine_tally least mask) (k ∷ rest) → k < least → AllSigned None last all verdicts
   unfolding rising_from
-  falling_stops {least} {k} p h = stops (rw (p.rising_so_far, lt-leb least k h) (and-false (known last all)))
+  falling_stops {least} {k} p h = rw (p.rising_so_far, lt-leb least k h) (and-false (known last all))
 
-  pub verdict_stops : good verdicts ≡ false → AllSigned record { fine = false; mask = mask } last all verdicts
-  verdict_stops e = stops (simp (e, and-false))
+  -- no vote is left, and all was well with each
+  pub all_fine_lem : {least : ℕ} → Counting last all (fine_tally least mask) [] → good verdicts ≡ true → AllSigned (Some mask) last all verdicts
+  unfolding known rising_from
+  all_fine_lem p e = (simp (p.known_so_far, p.rising_so_far, e), omega (arith, p.bits refl refl))
 
--- no vote is left, and all was well with each
-pub all_fine_lem : {last least mask : ℕ} {all verdicts : List ℕ} → Counting last all (fine_tally least mask) [] → good verdicts ≡ true
-    → AllSigned record { fine = true; mask = mask } last all verdicts
-unfolding known rising_from
-all_fine_lem p e = record { all_fine = sym (simp (p.known_so_far, p.rising_so_far, e)); count = λ _. omega (arith, p.bits refl refl) }
+pub verdict_stops : (last : ℕ) (all verdicts : List ℕ) → good verdicts ≡ false → AllSigned None last all verdicts
+verdict_stops last all verdicts e = simp (e, and-false)
 
 -- where all is well with each vote, their number decides
-pub signed_given : (f : ℕ) (t : Signed) (ks verdicts : List ℕ) → AllSigned t (3 * f) ks verdicts → t.fine ≡ true → enough f (ones t.mask) ≡ votes_given f ks (good verdicts)
+pub signed_given : (f mask : ℕ) (ks verdicts : List ℕ) → AllSigned (Some mask) (3 * f) ks verdicts → enough f (ones mask) ≡ votes_given f ks (good verdicts)
 unfolding votes_given
-signed_given f t ks verdicts signed e =
-    let a = both_true (known (3 * f) ks) _ (sym signed.all_fine ∙ e) in
+signed_given f mask ks verdicts signed =
+    let a = both_true (known (3 * f) ks) _ signed.0 in
     let b = both_true (rising ks) (good verdicts) a.1 in
-    rw (a.0, b.0, b.1, signed.count e)
+    rw (a.0, b.0, b.1, signed.1)
 
--- the signers left at a turn are the machine at its place and those after it
-pub signers_more : (s : List ℕ) (place step : ℕ) {i n : ℕ} → i < n
-    → signers s place step (n - i) ≡ number one s place ∷ signers s (place + step) step (n - (i + 1))
+-- the machine numbers of the first n votes behind the first i
+abbrev pub left : Votes → ℕ → ℕ → List ℕ
+left votes n i = signers votes.bytes.now (votes.place + votes.step * i) votes.step (n - i)
+
+-- at first all are left
+pub left_all : (votes : Votes) (n : ℕ) → left votes n 0 ≡ machines_of votes n
+left_all votes n =
+    let at : votes.place + votes.step * 0 ≡ votes.place = omega arith in
+    let all : n - 0 ≡ n = omega arith in
+    rw (at, all)
+
+-- at a turn the next machine is left, and those after it
+pub left_more : (votes : Votes) {n i : ℕ} → i < n → left votes n i ≡ number one votes.bytes.now (votes.place + votes.step * i) ∷ left votes n (i + 1)
 unfolding signers
-signers_more s place step {i} {n} h =
+left_more votes {n} {i} h =
     let e : n - i ≡ suc (n - (i + 1)) = omega arith in
-    rw e
+    let at : votes.place + votes.step * (i + 1) ≡ votes.place + votes.step * i + votes.step = omega arith in
+    rw (e, at)
 
--- no signers are left after the last turn
-pub signers_end : (s : List ℕ) (place step : ℕ) {i n : ℕ} → n ≤ i → signers s place step (n - i) ≡ []
+-- none is left after the last turn
+pub left_none : (votes : Votes) {n i : ℕ} → n ≤ i → left votes n i ≡ []
 unfolding signers
-signers_end s place step {i} {n} h =
+left_none votes {n} {i} h =
     let e : n - i ≡ zero = omega arith in
     rw e
-
--- a turn takes one step of those left
-pub steps_more : (step : ℕ) {i n : ℕ} → i < n → step * (n - i) ≡ step + step * (n - (i + 1))
-steps_more step {i} {n} h =
-    let e : n - i ≡ suc (n - (i + 1)) = omega arith in
-    rw e (mul-suc step (n - (i + 1)) ∙ add_comm _ step)
 
 -- a verdict of 1 leaves the rest to judge
 pub good_more : (s : List ℕ) (i : ℕ) → i < length s → get_or s i 0 ≡ 1 → good (drop i s) ≡ good (drop (i + 1) s)
@@ -174,3 +176,15 @@ good_stop s i h e = rw (drop-cons s i 0, ne_eqb _ _ e)
 pub good_end : (s : List ℕ) (i : ℕ) → length s ≤ i → good (drop i s) ≡ true
 unfolding good
 good_end s i h = rw (drop_of_length-le s h)
+
+-- all verdicts pass the test
+pub good_all : (s : List ℕ) → list_all (λ v. eqb v 1) s ≡ good s
+unfolding good
+good_all [] = refl
+good_all (v ∷ vs) = ap (λ b. eqb v 1 && b) (good_all vs)
+
+-- a step of what is left of n - i steps
+pub steps_more : (step : ℕ) {i n : ℕ} → i < n → step * (n - i) ≡ step + step * (n - (i + 1))
+steps_more step {i} {n} h =
+    let e : n - i ≡ suc (n - (i + 1)) = omega arith in
+    rw e (mul-suc step (n - (i + 1)) ∙ add_comm _ step)

@@ -1,13 +1,12 @@
 -- What the functions on votes answer: the tally of machine numbers, and the tests of 01 over it.
-use Rattle.std.specs.Prelude.{ℕ, ◌+◌, ◌*◌, ◌^◌, ◌≡◌, Bool, true, ◌&&◌, cond, List, [], ◌∷◌, length, leb}
+use Rattle.std.specs.Prelude.{ℕ, ◌+◌, ◌*◌, ◌^◌, ◌≡◌, Bool, true, false, ◌&&◌, cond, List, [], ◌∷◌, length, leb, Option, Some, None, Result}
 use Rattle.std.specs.Int.Bits.{bit_or}
 use Rattle.std.specs.Int.Count.{ones}
 use Rattle.octets.specs.Tests.{need}
 use Rattle.wire.specs.Votes.{known, rising, good}
-use Rattle.wire.specs.Refusals.{Said, gives, refuses, refusal_number}
+use Rattle.wire.specs.Refusals.{Said, gives, refuses, said}
 use Rattle.votes.specs.declared.Tally.{Tally}
-use Rattle.votes.specs.declared.Signed.{Signed}
-use Rattle.votes.specs.declared.VotesAnswer.{VotesAnswer}
+use Rattle.wire.specs.declared.answers.Refusal.{Refusal}
 
 -- the tally of votes, one more at a time: a known machine is a bit of the mask
 unfoldable pub counted : Tally → ℕ → ℕ → Tally
@@ -24,10 +23,10 @@ pub record Tallied (t : Tally) (last : ℕ) (ks : List ℕ) : Type 0 where
   pub all_rising : t.rising ≡ rising ks
   pub count : known last ks ≡ true → rising ks ≡ true → ones t.mask ≡ length ks
 
--- what one pass over machine numbers and verdicts says: all is well with each, and then the bits of the mask are as many as the machines
-pub record AllSigned (t : Signed) (last : ℕ) (ks verdicts : List ℕ) : Type 0 where
-  pub all_fine : t.fine ≡ (known last ks && (rising ks && good verdicts))
-  pub count : t.fine ≡ true → ones t.mask ≡ length ks
+-- what one pass over machine numbers and verdicts says: who signed, as many bits as there are machines, where all is well with each vote
+abbrev pub AllSigned : Option ℕ → ℕ → List ℕ → List ℕ → Type 0
+AllSigned None last ks verdicts = (known last ks && (rising ks && good verdicts)) ≡ false
+AllSigned (Some mask) last ks verdicts = ((known last ks && (rising ks && good verdicts)) ≡ true) × (ones mask ≡ length ks)
 
 -- 7, or how many machines voted
 abbrev pub enough : ℕ → ℕ → Said
@@ -51,6 +50,5 @@ votes_given f ks ok =
     (gives (length ks ∷ [])))))
 
 -- what is said of votes: the number of machines, or a refusal
-abbrev pub votes_said : VotesAnswer → Said
-votes_said (VotesAnswer.Counted n) = gives (n ∷ [])
-votes_said (VotesAnswer.Refused r) = refuses (refusal_number r)
+abbrev pub votes_said : Result ℕ Refusal → Said
+votes_said = said (λ (n : ℕ). n ∷ [])

@@ -9,59 +9,59 @@ ghost use Rattle.records.specs.Answers.{order_said};
 ghost use Rattle.records.specs.Calls as calls;
 
 use messages::order;
-use records::answers::OrderAnswer;
+use octets::TWO;
+use records::answers::Vote;
 use records::record::Record;
 use records::state;
-use wire::answers::{BodyAnswer, Refusal};
+use wire::answers::Refusal;
 use wire::kinds::Payment;
 
-// An order with a good verdict: a vote for its body, or a refusal.
-fn vote(s: &mut [u8], payment: Payment, body: &[u8]) -> OrderAnswer
-    requires { (length s.old ≡ 4616) × (is_payment payment ≡ true) × (length body.now ≤ 57) }
+// An order with a good verdict: a vote for its body, or a refusal. That the payment is in range is a clause: a type that says it would be made here
+// and opened at once.
+#[tactic(auto, using(wire::proofs::Ranges::payment_range, records::proofs::Facts::formed_fits, records::proofs::Facts::fits_holding), unfolding(records::specs::Calls::vote, records::specs::Calls::vote_on))]
+fn vote(s: &mut [u8; state::LENGTH], payment: Payment, body: &[u8]) -> Result<Vote, Refusal>
+    requires { (is_payment payment ≡ true) × (length body.now ≤ 57) }
     ensures { outcome (order_said result) s.new ≡ calls.vote base s.old payment body.now }
 {
     let sender = payment.sender;
     if !Record::formed(s, sender) {
-        return OrderAnswer::Refused(Refusal::BadState);
+        return Err(Refusal::BadState);
     }
     let record = Record::read(s, sender);
     if !record.used {
-        return OrderAnswer::Refused(Refusal::SenderNotInUse);
+        return Err(Refusal::SenderNotInUse);
     }
     if 0 < record.waiting {
+        // `same` is the definition's word.
         if !octets::same(Record::pending(s, sender), body) {
-            return OrderAnswer::Refused(Refusal::AnotherPending);
+            return Err(Refusal::AnotherPending);
         }
-        return OrderAnswer::VoteRepeated;
+        return Ok(Vote::Repeated);
     }
     if payment.sequence.0 != record.next.0 {
-        return OrderAnswer::Refused(Refusal::NotNextSequence);
+        return Err(Refusal::NotNextSequence);
     }
     if record.balance < Record::NOUGHT + payment.amount {
-        return OrderAnswer::Refused(Refusal::BalanceTooLow);
+        return Err(Refusal::BalanceTooLow);
     }
-    let kept = record.holding(body);
-    kept.write(s, sender);
-    OrderAnswer::VoteNew
+    record.holding(body).write(s, sender);
+    Ok(Vote::New)
 }
 
-pub fn handle_order(s: &mut [u8], message: &[u8], verdicts: &[u8]) -> OrderAnswer
+#[tactic(auto, unfolding(records::specs::Calls::order))]
+pub fn handle_order(s: &mut [u8], message: &[u8], verdicts: &[u8]) -> Result<Vote, Refusal>
     ensures { outcome (order_said result) s.new ≡ calls.order base s.old message.now verdicts.now }
 {
-    if !state::formed(s) {
-        return OrderAnswer::Refused(Refusal::BadState);
+    let Some(state) = state::open_mut(s) else {
+        return Err(Refusal::BadState);
+    };
+    let payment = order::order_payment(message)?;
+    if verdicts.len() != 1 {
+        return Err(Refusal::VerdictCount);
     }
-    match order::order_payment(message) {
-        BodyAnswer::Refused(refusal) => OrderAnswer::Refused(refusal),
-        BodyAnswer::Pays(payment) => {
-            if verdicts.len() != 1 {
-                return OrderAnswer::Refused(Refusal::VerdictCount);
-            }
-            if !votes::all_good(verdicts) {
-                return OrderAnswer::Refused(Refusal::BadVerdict);
-            }
-            let size = octets::get16(message, 1) as usize;
-            vote(s, payment, octets::cut(message, 3, size))
-        }
+    if !votes::all_good(verdicts) {
+        return Err(Refusal::BadVerdict);
     }
+    let size = octets::get::<TWO>(message, 1) as usize;
+    vote(state, payment, octets::cut(message, 3, size))
 }

@@ -1,7 +1,7 @@
 -- Laws of fields: a field that was written is passed, and a field that was passed is, byte for byte, a field written. Assumes nothing.
 use Prim.Native.Nat.{ℕ, zero, suc, ◌+◌, ◌^◌, ◌<◌, ◌≤◌}
 use mathlib.Core.Path.{◌≡◌, refl, sym, ap, ◌∙◌}
-use mathlib.Core.Bool.{Bool, true, false, ◌&&◌, cond}
+use mathlib.Core.Bool.{Bool, true, false, cond}
 use mathlib.Core.List.{List, [], ◌∷◌, ◌++◌, append-nil, append_assoc}
 use native.Mathlib.Omega.{arith}
 use lib.ListN.{length, get_or, take, drop, length-append, take-append-drop, length-take, length-drop}
@@ -138,11 +138,6 @@ pub laid_ends : (m : List ℕ) (fields : List Want) → laid m fields ≡ true �
 unfolding laid
 laid_ends m fields h = let t = both (is_message (length m)) _ h in (leb-true _ _ t.0, eqb-true _ _ t.1)
 
--- what `whole` says of the place where the fields end
-pub whole_laid : (m : List ℕ) (fields : List Want) (end : ℕ) → end ≡ ends m 0 fields → (is_message (length m) && eqb end (length m)) ≡ laid m fields
-unfolding laid
-whole_laid m fields end e = ap (λ (n : ℕ). is_message (length m) && eqb n (length m)) e
-
 -- a test that leads to what cannot be fails
 pub fails : (t : Bool) → (t ≡ true → ⊥) → t ≡ false
 fails true h = absurd (h refl)
@@ -178,7 +173,7 @@ after_lost m w f =
     (same_cond w.many lost)
 
 -- so it does over any fields
-ends_lost : (m : List ℕ) (fields : List Want) → length m < lost → ends m lost fields ≡ lost
+pub ends_lost : (m : List ℕ) (fields : List Want) → length m < lost → ends m lost fields ≡ lost
 unfolding ends
 ends_lost m [] f = refl
 ends_lost m (w ∷ ws) f = rw (after_lost m w f) (ends_lost m ws f)
@@ -245,6 +240,31 @@ all_end zero m at tag least most e = simp (eq-eqb at (length m) e)
 all_end (suc n) m at tag least most e = simp (eq-eqb at (length m) e)
 
 -- one field more
-pub all_more : (n : ℕ) (m : List ℕ) (at tag least most : ℕ) → at < length m → past_all (suc n) m at tag least most ≡ past_all n m (past m at tag least most) tag least most
+all_more : (n : ℕ) (m : List ℕ) (at tag least most : ℕ) → (at ≡ length m → ⊥) → past_all (suc n) m at tag least most ≡ past_all n m (past m at tag least most) tag least most
 unfolding past_all
-all_more n m at tag least most h = simp (ne_eqb at (length m) (λ e. omega arith))
+all_more n m at tag least most h = simp (ne_eqb at (length m) h)
+
+-- from `place` on the fields end at x, with fuel for all of them
+abbrev pub Left : ℕ → List ℕ → ℕ → ℕ → ℕ → Type 0
+Left x m place tag size = (n : ℕ) × (length m ≤ place + n) × (x ≡ past_all n m place tag size size)
+
+module _ (x : ℕ) (m : List ℕ) (place tag size : ℕ) (h : place ≡ length m → ⊥) where
+  -- past a field as laid down the others are left
+  pub goes_on : (past m place tag size size ≡ lost → ⊥) → Left x m place tag size → Left x m (past m place tag size size) tag size
+  goes_on there left = go left.0 left.1 left.2
+    where
+      p : Passed m place tag size size
+      p = passed m place tag size size there
+
+      go : (n : ℕ) → length m ≤ place + n → x ≡ past_all n m place tag size size → Left x m (past m place tag size size) tag size
+      go zero l q = absurd (h (omega (arith, p.whole)))
+      go (suc n) l q = (n, omega (arith, p.place), q ∙ all_more n m place tag size size h)
+
+  -- where no such field stands the place is lost
+  pub stops : length m < lost → past m place tag size size ≡ lost → Left x m place tag size → x ≡ lost
+  unfolding past_all
+  stops short fails left = go left.0 left.2
+    where
+      go : (n : ℕ) → x ≡ past_all n m place tag size size → x ≡ lost
+      go zero q = q ∙ rw (ne_eqb place (length m) h) refl
+      go (suc n) q = q ∙ all_more n m place tag size size h ∙ ap (λ (p : ℕ). past_all n m p tag size size) fails ∙ all_lost n m lost tag size size short short

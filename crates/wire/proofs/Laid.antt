@@ -1,7 +1,7 @@
 -- What each message's layout gives: its fields as laid down, where they end, and its length. Assumes nothing.
 use Prim.Native.Nat.{ℕ, zero, suc, ◌+◌, ◌-◌, ◌*◌, ◌/◌, ◌<◌, ◌≤◌}
-use mathlib.Core.Path.{◌≡◌, refl}
-use mathlib.Core.Bool.{Bool, true, false}
+use mathlib.Core.Path.{◌≡◌, refl, sym, ap, ◌∙◌}
+use mathlib.Core.Bool.{Bool, true, false, ◌&&◌}
 use mathlib.Core.List.{List, [], ◌∷◌}
 use native.Mathlib.Omega.{arith}
 use native.Mathlib.Nat.{lt_irrefl}
@@ -9,12 +9,16 @@ use lib.ListN.{length}
 use lib.Dec.{eqb}
 use borrow.Author.Tests.{eqb-true, le-leb}
 use Rattle.octets.specs.Octets.{two, number}
-use Rattle.wire.specs.Numbers.{is_note}
+use Rattle.std.specs.Prelude.{Some, None}
+use Rattle.std.specs.Borrow.{Bor}
+use Rattle.wire.specs.Numbers.{is_note, is_message}
 use Rattle.octets.specs.Tests.{need}
-use Rattle.wire.specs.Fields.{Want, want, lost, want_all, size, past, past_all, after, ends, laid}
+use Rattle.wire.specs.Fields.{Want, want, lost, want_all, size, past, past_all, after, ends, laid, reader_at, reached}
+use Rattle.wire.specs.declared.fields.Reader.{Reader}
 use Rattle.wire.specs.Messages.{body_fields, note_in, order_fields, signature_in, certificate_fields, funding_fields}
 use Rattle.wire.specs.Votes.{votes}
-use Rattle.wire.proofs.FieldLaws.{Passed, passed, first_field, first_sized, last_field, laid_ends, length_cut, all_lost}
+use Rattle.wire.proofs.FieldLaws.{Passed, passed, first_field, first_sized, last_field, laid_ends, length_cut, all_lost, fails}
+use Rattle.wire.proofs.Reached.{Toward, none_lost, some_at}
 
 -- a message laid down whose first field, of 25 to 57 bytes, ends at `end`
 pub record Enclosed (m : List ℕ) (fields : List Want) (end : ℕ) : Type 0 where
@@ -24,29 +28,54 @@ pub record Enclosed (m : List ℕ) (fields : List Want) (end : ℕ) : Type 0 whe
   pub most : size m 0 ≤ 57
   pub whole : 3 + size m 0 ≤ length m
 
--- a place that a test gives, or lost: where it is not lost the test held, and where it is lost the test failed
-found : (t : Bool) (n end : ℕ) → end ≡ need t lost n → (end ≡ lost → ⊥) → (t ≡ true) × (end ≡ n)
-found true n end e h = (refl, e)
-found false n end e h = absurd (h e)
+-- a message whose fields no reader has passed is not laid down
+pub not_laid : (m : Bor (List ℕ)) (fields : List Want) → None ≡ reached m (ends m.now 0 fields) → laid m.now fields ≡ false
+not_laid m fields e =
+    fails (laid m.now fields)
+    (λ h. let t = laid_ends m.now fields h in
+    let l : ends m.now 0 fields ≡ lost = none_lost m (ends m.now 0 fields) e in
+    lt_irrefl lost (omega arith))
 
-missed : (t : Bool) (n end : ℕ) → (t ≡ true → n < lost) → end ≡ need t lost n → end ≡ lost → t ≡ false
-missed true n end small e h = absurd (lt_irrefl lost (omega (arith, small refl)))
-missed false n end small e h = refl
+-- a reader past all fields that is whole says that the message is laid down
+pub whole_laid : {m : Bor (List ℕ)} {fields : List Want} {r : Reader} → Toward m fields r [] → (is_message (length r.message.now) && eqb r.at (length r.message.now)) ≡ laid m.now fields
+unfolding laid ends
+whole_laid {m} {fields} {r} k =
+    ap (λ (s : Bor (List ℕ)). is_message (length s.now) && eqb r.at (length s.now)) k.message ∙ ap (λ (n : ℕ). is_message (length m.now) && eqb n (length m.now)) (sym k.left)
+
+-- where a test gives a place it held, and where it gives none it failed
+found : (t : Bool) (n end : ℕ) → Some end ≡ need t None (Some n) → (t ≡ true) × (end ≡ n)
+found true n end e = (refl, cc)
+found false n end e = absurd cc
+
+missed : (t : Bool) (n : ℕ) → None ≡ need t None (Some n) → t ≡ false
+missed true n e = absurd cc
+missed false n e = refl
 
 -- a message laid down with a field of 25 to 57 bytes first ends that field behind its value
 module _ (m : List ℕ) (tag : ℕ) (others : List Want) where
   pub first_ends : laid m (want tag 25 57 ∷ others) ≡ true → Passed m 0 tag 25 57
   first_ends h = let e = laid_ends m (want tag 25 57 ∷ others) h in (first_field m 0 tag 25 57 others e.0 e.1).0
 
-  -- where that end is found the message is laid down; where it is lost it is not
-  pub enclosed : (end : ℕ) → end ≡ need (laid m (want tag 25 57 ∷ others)) lost (3 + size m 0) → (end ≡ lost → ⊥) → Enclosed m (want tag 25 57 ∷ others) end
-  enclosed end e h =
-      let f = found (laid m (want tag 25 57 ∷ others)) (3 + size m 0) end e h in
+  -- what an answer of that end says
+  pub enclosed : (end : ℕ) → Some end ≡ need (laid m (want tag 25 57 ∷ others)) None (Some (3 + size m 0)) → Enclosed m (want tag 25 57 ∷ others) end
+  enclosed end e =
+      let f = found (laid m (want tag 25 57 ∷ others)) (3 + size m 0) end e in
       let p = first_ends f.0 in
       record { laid_down = f.0; place = f.1; least = p.long; most = p.short; whole = p.whole }
 
-  pub not_enclosed : (end : ℕ) → end ≡ need (laid m (want tag 25 57 ∷ others)) lost (3 + size m 0) → end ≡ lost → laid m (want tag 25 57 ∷ others) ≡ false
-  not_enclosed end e h = missed (laid m (want tag 25 57 ∷ others)) (3 + size m 0) end (λ l. omega (arith, (first_ends l).short)) e h
+  pub not_enclosed : None ≡ need (laid m (want tag 25 57 ∷ others)) None (Some (3 + size m 0)) → laid m (want tag 25 57 ∷ others) ≡ false
+  not_enclosed e = missed (laid m (want tag 25 57 ∷ others)) (3 + size m 0) e
+
+  -- and the other way round
+  pub no_end : laid m (want tag 25 57 ∷ others) ≡ false → None ≡ need (laid m (want tag 25 57 ∷ others)) None (Some (3 + size m 0))
+  no_end h = rw h refl
+
+-- the reader past the first field of a message that is laid down is at that end
+pub an_end : (m : Bor (List ℕ)) (tag : ℕ) (others : List Want) {r r' : Reader} → laid m.now (want tag 25 57 ∷ others) ≡ true → r ≡ reader_at m 0 → Some r' ≡ reached r.message (past r.message.now r.at tag 25 57) → Some r'.at ≡ need (laid m.now (want tag 25 57 ∷ others)) None (Some (3 + size m.now 0))
+an_end m tag others {r} {r'} h e f =
+    let g : Some r' ≡ reached m (past m.now 0 tag 25 57) = f ∙ ap (λ (q : Reader). reached q.message (past q.message.now q.at tag 25 57)) e in
+    let q : r' ≡ reader_at m (past m.now 0 tag 25 57) = (some_at m (past m.now 0 tag 25 57) r' g).0 in
+    rw h (ap (λ (x : Reader). Some x.at) q ∙ ap (λ (n : ℕ). Some n) (first_ends m.now tag others h).place)
 
 -- a body's five fields as laid down, and its length
 pub record BodyLaid (b : List ℕ) : Type 0 where

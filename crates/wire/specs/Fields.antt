@@ -1,6 +1,6 @@
 -- 01, Messages, the first paragraph. A field is a tag byte, a two-byte length and a value.
 -- Fields come in the order given, each once (votes excepted), with nothing after the last.
-use Rattle.std.specs.Prelude.{ℕ, zero, suc, ◌+◌, Bool, true, false, ◌&&◌, cond, List, [], ◌∷◌, ◌++◌, length, leb, eqb}
+use Rattle.std.specs.Prelude.{ℕ, zero, suc, ◌+◌, Bool, true, false, ◌&&◌, cond, List, [], ◌∷◌, ◌++◌, length, leb, eqb, Option, Some, None}
 use Rattle.std.specs.Borrow.{Bor}
 use Rattle.octets.specs.Octets.{one, two, number, bytes}
 use Rattle.octets.specs.Tests.{need}
@@ -68,3 +68,7 @@ laid m fields = is_message (length m) && eqb (ends m 0 fields) (length m)
 -- a reader holds the message and its place in it
 abbrev pub reader_at : Bor (List ℕ) → ℕ → Reader
 reader_at m at = record { message = m; at = at }
+
+-- a reader of m that has reached a place, and none at the lost place
+unfoldable pub reached : Bor (List ℕ) → ℕ → Option Reader
+reached m at = cond (eqb at lost) None (Some (reader_at m at))

@@ -1,15 +1,16 @@
 -- 01, Messages, the last paragraph, and the order of checks under Refusal numbers: what each reader answers.
-use Rattle.std.specs.Prelude.{ℕ, Bool, ◌&&◌, ◌||◌, List, [], ◌∷◌, length, take, replicate, eqb}
+use Rattle.std.specs.Prelude.{ℕ, Bool, ◌&&◌, ◌||◌, List, [], ◌∷◌, length, take, replicate, eqb, Result, Ok, Err}
 use Rattle.octets.specs.Octets.{put}
 use Rattle.wire.specs.Numbers.{is_faults}
 use Rattle.octets.specs.Tests.{need}
 use Rattle.wire.specs.Fields.{size, laid}
 use Rattle.wire.specs.Messages.{body_fields, payment, is_payment, note_in, order_fields, certificate_fields, inside, signature_in, funding_fields, funding, is_funding}
 use Rattle.wire.specs.Votes.{Committee, committee, votes, signers_in, known, rising, good}
-use Rattle.wire.specs.Refusals.{Said, gives, refuses, payment_values, funding_values, body_said}
+use Rattle.wire.specs.Refusals.{Said, gives, refuses, refusal_number, payment_values, funding_values}
 use Rattle.wire.specs.declared.kinds.Note.{Note}
-use Rattle.wire.specs.declared.answers.BodyRead.{BodyRead}
-use Rattle.wire.specs.declared.answers.OrderRead.{OrderRead}
+use Rattle.wire.specs.declared.answers.Refusal.{Refusal}
+use Rattle.wire.specs.declared.answers.Body.{Body}
+use Rattle.wire.specs.declared.answers.Order.{Order}
 use Rattle.wire.specs.declared.answers.Stretch.{Stretch}
 
 -- a body's values, or 1, then 2
@@ -40,8 +41,10 @@ pub record BodyShown : Type 0 where
   pub answer : Said
   pub note : Note
 
-abbrev pub body_shown : BodyRead → BodyShown
-body_shown r = record { answer = body_said r.answer; note = r.note }
+-- what is read of a body; a refusal has no note
+abbrev pub body_shown : Result Body Refusal → BodyShown
+body_shown (Ok b) = record { answer = gives (payment_values b.payment); note = b.note }
+body_shown (Err r) = record { answer = refuses (refusal_number r); note = note_held [] }
 
 -- the reader of a body: its values, the note's bytes too; a refusal has no note
 unfoldable pub read_body : List ℕ → BodyShown
@@ -53,8 +56,10 @@ pub record OrderShown : Type 0 where
   pub note : Note
   pub signature : List ℕ
 
-abbrev pub order_shown : OrderRead → OrderShown
-order_shown r = record { answer = body_said r.answer; note = r.note; signature = r.signature }
+-- what is read of an order; a refusal has no note, and zeros for a signature
+abbrev pub order_shown : Result Order Refusal → OrderShown
+order_shown (Ok o) = record { answer = gives (payment_values o.payment); note = o.note; signature = o.signature }
+order_shown (Err r) = record { answer = refuses (refusal_number r); note = note_held []; signature = held 64 [] }
 
 -- an order's payment, or 1 on the whole message, then 2
 abbrev pub read_order_payment : List ℕ → Said

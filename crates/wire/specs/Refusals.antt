@@ -1,12 +1,9 @@
 -- 01, Refusal numbers: the number of each refusal, and the number and values of each case of each answer.
-use Rattle.std.specs.Prelude.{ℕ, List, [], ◌∷◌}
+use Rattle.std.specs.Prelude.{ℕ, List, [], ◌∷◌, Result, Ok, Err}
 use Rattle.wire.specs.declared.kinds.Payment.{Payment}
 use Rattle.wire.specs.declared.kinds.Funding.{Funding}
 use Rattle.wire.specs.declared.answers.Refusal.{Refusal}
-use Rattle.wire.specs.declared.answers.BodyAnswer.{BodyAnswer}
-use Rattle.wire.specs.declared.answers.FundingAnswer.{FundingAnswer}
-use Rattle.wire.specs.declared.answers.CertificateAnswer.{CertificateAnswer}
-use Rattle.wire.specs.declared.answers.WriteAnswer.{WriteAnswer}
+use Rattle.wire.specs.declared.answers.Certified.{Certified}
 
 -- the number of each refusal
 abbrev pub refusal_number : Refusal → ℕ
@@ -42,30 +39,31 @@ gives vs = record { number = 0; values = vs }
 abbrev pub refuses : ℕ → Said
 refuses n = record { number = n; values = [] }
 
+-- what a call's result says: 0 and the values of what it answers, or the number of the refusal
+abbrev pub said : {A : Type 0} → (A → List ℕ) → Result A Refusal → Said
+said values (Ok a) = gives (values a)
+said values (Err r) = refuses (refusal_number r)
+
 -- sender, kind, recipient, amount, sequence
 abbrev pub payment_values : Payment → List ℕ
 payment_values p = p.sender.0 ∷ p.kind ∷ p.recipient ∷ p.amount ∷ p.sequence.0 ∷ []
 
 -- the answer on a body or an order: the payment
-abbrev pub body_said : BodyAnswer → Said
-body_said (BodyAnswer.Pays p) = gives (payment_values p)
-body_said (BodyAnswer.Refused r) = refuses (refusal_number r)
+abbrev pub body_said : Result Payment Refusal → Said
+body_said = said payment_values
 
 -- index, account, amount
 abbrev pub funding_values : Funding → List ℕ
 funding_values o = o.index.0 ∷ o.account.0 ∷ o.amount ∷ []
 
 -- the answer on a funding order: its values
-abbrev pub funding_said : FundingAnswer → Said
-funding_said (FundingAnswer.Funds o) = gives (funding_values o)
-funding_said (FundingAnswer.Refused r) = refuses (refusal_number r)
+abbrev pub funding_said : Result Funding Refusal → Said
+funding_said = said funding_values
 
 -- the answer on a certificate: the number of different machines that voted, then the payment
-abbrev pub certificate_said : CertificateAnswer → Said
-certificate_said (CertificateAnswer.Certifies p n) = gives (n ∷ payment_values p)
-certificate_said (CertificateAnswer.Refused r) = refuses (refusal_number r)
+abbrev pub certificate_said : Result Certified Refusal → Said
+certificate_said = said (λ (c : Certified). c.machines ∷ payment_values c.payment)
 
 -- the answer of a writer: how many bytes were written
-abbrev pub write_said : WriteAnswer → Said
-write_said (WriteAnswer.Wrote n) = gives (n ∷ [])
-write_said (WriteAnswer.Refused r) = refuses (refusal_number r)
+abbrev pub write_said : Result ℕ Refusal → Said
+write_said = said (λ (n : ℕ). n ∷ [])

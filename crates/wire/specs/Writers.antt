@@ -1,5 +1,5 @@
 -- 01, Rules, Writers: what each writer answers, and every byte of the output afterwards. Bytes beyond what is written stay.
-use Rattle.std.specs.Prelude.{ℕ, ◌%◌, List, [], ◌∷◌, length, leb, eqb}
+use Rattle.std.specs.Prelude.{ℕ, ◌%◌, List, [], ◌∷◌, length, leb, eqb, Result}
 use Rattle.octets.specs.Octets.{put}
 use Rattle.wire.specs.Numbers.{is_faults, is_note}
 use Rattle.octets.specs.Tests.{need}
@@ -9,14 +9,14 @@ use Rattle.wire.specs.Votes.{Committee, committee, signers_of, known, rising, ce
 use Rattle.wire.specs.Refusals.{Said, gives, refuses, write_said}
 use Rattle.wire.specs.declared.kinds.Payment.{Payment}
 use Rattle.wire.specs.declared.kinds.Funding.{Funding}
-use Rattle.wire.specs.declared.answers.WriteAnswer.{WriteAnswer}
+use Rattle.wire.specs.declared.answers.Refusal.{Refusal}
 
 -- an answer, and the output afterwards
 pub record Written : Type 0 where
   pub answer : Said
   pub out : List ℕ
 
-abbrev pub written : WriteAnswer → List ℕ → Written
+abbrev pub written : Result ℕ Refusal → List ℕ → Written
 written a out = record { answer = write_said a; out = out }
 
 -- a refusal writes nothing

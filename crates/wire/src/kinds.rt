@@ -1,7 +1,8 @@
 // The kinds of number, counted apart, and what messages say. A value may be out of range: readers and writers refuse it.
-ghost use Rattle.std.specs.Prelude.{◌≡◌};
+ghost use Rattle.std.specs.Prelude.{◌≡◌, ◌≤◌, length};
 ghost use Rattle.wire.specs.Numbers.{is_account, is_recipient, is_amount, is_sequence, is_index};
 ghost use Rattle.wire.specs.Messages.{is_payment, is_funding};
+ghost use Rattle.wire.specs.Readers as readers;
 
 #[derive(Clone, Copy)]
 pub struct Account(pub u64);
@@ -15,6 +16,7 @@ pub struct Sequence(pub u64);
 #[derive(Clone, Copy)]
 pub struct FundingIndex(pub u64);
 
+// Each kind has its own range and its own test: a trait over them would be as long, and each caller would have to import it.
 impl Account {
     pub const LAST: u64 = 63;
 
@@ -41,10 +43,7 @@ impl FundingIndex {
     pub fn in_range(self) -> bool
         ensures { result ≡ is_index self.0 }
     {
-        if self.0 < 1 {
-            return false;
-        }
-        self.0 <= FundingIndex::LAST
+        (1..=FundingIndex::LAST).contains(&self.0)
     }
 }
 
@@ -52,25 +51,21 @@ impl FundingIndex {
 pub fn amount_in_range(amount: u64) -> bool
     ensures { result ≡ is_amount amount }
 {
-    if amount < 1 {
-        return false;
-    }
-    amount <= 1000000000
+    (1..=1_000_000_000).contains(&amount)
 }
 
 pub fn recipient_in_range(kind: u64, number: u64) -> bool
     ensures { result ≡ is_recipient kind number }
 {
-    if kind == 0 {
-        return number <= Account::LAST;
+    match kind {
+        0 => number <= Account::LAST,
+        1 => number <= 65_535,
+        _ => false,
     }
-    if kind == 1 {
-        return number <= 65535;
-    }
-    false
 }
 
-// What a body says. Of kind 0 the recipient is an account, of kind 1 an account at the ledger.
+// What a body says. Of kind 0 the recipient is an account, of kind 1 an account at the ledger. The kind is a number
+// and no enum: writers are promised to take any kind and to refuse those that there are not.
 #[derive(Clone, Copy)]
 pub struct Payment {
     pub sender: Account,
@@ -81,21 +76,14 @@ pub struct Payment {
 }
 
 impl Payment {
+    #[tactic(auto, unfolding(crate::specs::Messages::is_payment))]
     pub fn in_range(self) -> bool
         ensures { result ≡ is_payment self }
     {
-        let sender = self.sender;
-        if !sender.in_range() {
-            return false;
-        }
-        if !recipient_in_range(self.kind, self.recipient) {
-            return false;
-        }
-        if !amount_in_range(self.amount) {
-            return false;
-        }
-        let sequence = self.sequence;
-        sequence.in_range()
+        self.sender.in_range()
+            && recipient_in_range(self.kind, self.recipient)
+            && amount_in_range(self.amount)
+            && self.sequence.in_range()
     }
 }
 
@@ -108,24 +96,27 @@ pub struct Funding {
 }
 
 impl Funding {
+    #[tactic(auto, unfolding(crate::specs::Messages::is_funding))]
     pub fn in_range(self) -> bool
         ensures { result ≡ is_funding self }
     {
-        let index = self.index;
-        if !index.in_range() {
-            return false;
-        }
-        let account = self.account;
-        if !account.in_range() {
-            return false;
-        }
-        amount_in_range(self.amount)
+        self.index.in_range() && self.account.in_range() && amount_in_range(self.amount)
     }
 }
 
-// The note's bytes, zeros after them.
+// The note's bytes, zeros after them: there is no heap.
 #[derive(Clone, Copy)]
 pub struct Note {
     pub length: usize,
     pub bytes: [u8; 32],
+}
+
+// A part's bytes at the front of an array, zeros behind them.
+pub fn held<const N: usize>(part: &[u8]) -> [u8; N]
+    requires { length part.now ≤ N }
+    ensures { result ≡ readers.held N part.now }
+{
+    let mut bytes = [0; N];
+    octets::copy(&mut bytes, 0, part);
+    bytes
 }

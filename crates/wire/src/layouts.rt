@@ -1,61 +1,32 @@
 // The layout of each message: its fields, read one after another.
-ghost use Rattle.std.specs.Prelude.{◌≡◌, ◌+◌};
+ghost use Rattle.std.specs.Prelude.{◌≡◌, ◌+◌, Some, None};
 ghost use Rattle.octets.specs.Tests.{need};
-ghost use Rattle.wire.specs.Fields.{lost, size, past, ends, laid};
+ghost use Rattle.wire.specs.Fields.{size, ends, laid, reached};
 ghost use Rattle.wire.specs.Messages.{body_fields, order_fields, certificate_fields, funding_fields};
 
-use crate::fields;
 use crate::fields::Reader;
 
-// Where the first field ends, and the last.
-#[derive(Drop)]
-struct Pair {
-    first: usize,
-    last: usize,
-}
-
-fn body_place(body: &[u8]) -> usize
-    ensures { result ≡ ends body.now 0 body_fields }
+fn past_body(body: &[u8]) -> Option<Reader<'_>>
+    ensures { result ≡ reached body.entry (ends body.now 0 body_fields) }
 {
-    let sender = Reader::new(body).field(0x01, 1, 1);
-    let recipient = sender.field(0x02, 3, 3);
-    let amount = recipient.field(0x03, 4, 4);
-    let sequence = amount.field(0x04, 2, 2);
-    let note = sequence.field(0x05, 0, 32);
-    note.at
+    Reader::new(body)
+        .field(0x01, 1, 1)?
+        .field(0x02, 3, 3)?
+        .field(0x03, 4, 4)?
+        .field(0x04, 2, 2)?
+        .field(0x05, 0, 32)
 }
 
-fn funding_place(message: &[u8]) -> usize
-    ensures { result ≡ ends message.now 0 funding_fields }
+fn past_funding(message: &[u8]) -> Option<Reader<'_>>
+    ensures { result ≡ reached message.entry (ends message.now 0 funding_fields) }
 {
-    let index = Reader::new(message).field(0x30, 2, 2);
-    let account = index.field(0x31, 1, 1);
-    let amount = account.field(0x32, 4, 4);
-    amount.at
+    Reader::new(message)
+        .field(0x30, 2, 2)?
+        .field(0x31, 1, 1)?
+        .field(0x32, 4, 4)
 }
 
-fn order_places(message: &[u8]) -> Pair
-    ensures { (result.first ≡ past message.now 0 0x10 25 57) × (result.last ≡ ends message.now 0 order_fields) }
-{
-    let body = Reader::new(message).field(0x10, 25, 57);
-    let signature = body.field(0x11, 64, 64);
-    Pair {
-        first: body.at,
-        last: signature.at,
-    }
-}
-
-fn certificate_places(message: &[u8]) -> Pair
-    ensures { (result.first ≡ past message.now 0 0x20 25 57) × (result.last ≡ ends message.now 0 certificate_fields) }
-{
-    let body = Reader::new(message).field(0x20, 25, 57);
-    let votes = body.fields(0x21, 65);
-    Pair {
-        first: body.at,
-        last: votes.at,
-    }
-}
-
+// One function for each layout: without a test of its whole length, which is its own, the compiler keeps a test at every field.
 pub fn body_laid(body: &[u8]) -> bool
     ensures { result ≡ laid body.now body_fields }
 {
@@ -63,7 +34,10 @@ pub fn body_laid(body: &[u8]) -> bool
     if body.len() < 25 {
         return false;
     }
-    fields::whole(body, body_place(body))
+    let Some(reader) = past_body(body) else {
+        return false;
+    };
+    reader.whole()
 }
 
 pub fn funding_laid(message: &[u8]) -> bool
@@ -73,27 +47,32 @@ pub fn funding_laid(message: &[u8]) -> bool
     if message.len() != 16 {
         return false;
     }
-    fields::whole(message, funding_place(message))
+    let Some(reader) = past_funding(message) else {
+        return false;
+    };
+    reader.whole()
 }
 
-// The end of the body's field where the message is laid out as an order, or LOST.
-pub fn order_end(message: &[u8]) -> usize
-    ensures { result ≡ need (laid message.now order_fields) lost (3 + size message.now 0) }
+// The end of the body's field, where the message is laid out as an order.
+pub fn order_end(message: &[u8]) -> Option<usize>
+    ensures { result ≡ need (laid message.now order_fields) None (Some (3 + size message.now 0)) }
 {
-    let places = order_places(message);
-    if !fields::whole(message, places.last) {
-        return fields::LOST;
+    let body = Reader::new(message).field(0x10, 25, 57)?;
+    let signature = body.field(0x11, 64, 64)?;
+    if !signature.whole() {
+        return None;
     }
-    places.first
+    Some(body.at)
 }
 
-// The same where it is laid out as a certificate.
-pub fn certificate_end(message: &[u8]) -> usize
-    ensures { result ≡ need (laid message.now certificate_fields) lost (3 + size message.now 0) }
+// The same where it is laid out as a certificate: each layout is a chain of literals, which the compiler folds.
+pub fn certificate_end(message: &[u8]) -> Option<usize>
+    ensures { result ≡ need (laid message.now certificate_fields) None (Some (3 + size message.now 0)) }
 {
-    let places = certificate_places(message);
-    if !fields::whole(message, places.last) {
-        return fields::LOST;
+    let body = Reader::new(message).field(0x20, 25, 57)?;
+    let votes = body.fields(0x21, 65)?;
+    if !votes.whole() {
+        return None;
     }
-    places.first
+    Some(body.at)
 }

@@ -1,13 +1,15 @@
 -- Laws of what writers put: stretches one after another, the lengths of messages, and what their values keep to. Assumes nothing.
-use Prim.Native.Nat.{ℕ, zero, suc, ◌+◌, ◌-◌, ◌*◌, ◌/◌, ◌<◌, ◌≤◌}
-use mathlib.Core.Path.{◌≡◌, refl, sym, ◌∙◌}
+use Prim.Native.Nat.{ℕ, zero, suc, ◌+◌, ◌-◌, ◌*◌, ◌/◌, ◌%◌, ◌^◌, ◌<◌, ◌≤◌}
+use mathlib.Core.Path.{◌≡◌, refl, sym, subst, ◌∙◌}
 use mathlib.Core.Bool.{Bool, true, false, not, false≢true, and-eq-true_iff}
 use mathlib.Core.List.{List, [], ◌∷◌, ◌++◌, append_assoc}
 use native.Mathlib.Omega.{arith}
 use lib.ListN.{length, take, drop, length-append, length-take, length-drop, drop_of_length-le}
-use lib.Seq.{drop-drop}
+use lib.Pow.{pow_mono, shl_exact}
+use native.Mathlib.Nat.{one-mul}
+use lib.Seq.{take-append_seam, drop-append_seam}
 use borrow.Author.Tests.{not-true, not-false, leb-true, le-leb, lt-leb}
-use Rattle.octets.specs.Octets.{one, two, bytes, cut, put}
+use Rattle.octets.specs.Octets.{one, two, bytes, put}
 use Rattle.octets.proofs.Laws.{put_append, length_bytes}
 use Rattle.wire.specs.Numbers.{is_recipient}
 use Rattle.wire.specs.Fields.{field}
@@ -37,6 +39,13 @@ pub put_value : {t u : List ℕ} {n : ℕ} (s : List ℕ) (at tag : ℕ) (value 
 put_value {n = n} s at tag value p q e =
     rw (e, ← append_assoc) (put_behind s at (bytes one tag ++ bytes two n) value p q (simp lengths))
 
+-- how many bytes a width has, as code counts them
+pub width_size : (k : ℕ) → k ≤ 3 → (1 * 2 ^ k) % 18446744073709551616 ≡ 2 ^ k
+width_size k h = shl_exact {a = 1} 1 k 64 (omega arith) (omega arith) ∙ one-mul (2 ^ k)
+
+pub width_most : (k : ℕ) → k ≤ 3 → 2 ^ k ≤ 8
+width_most k h = pow_mono h
+
 -- how long each message is
 pub length_body : (p : Payment) (note : List ℕ) → length (body_bytes p note) ≡ 25 + length note
 unfolding body_bytes
@@ -55,23 +64,22 @@ abbrev pub all_votes : List ℕ → List ℕ
 all_votes run = vote_fields (length run / 65) run
 
 -- the first vote of a run goes into the first field
-votes_first : (run : List ℕ) → 65 ≤ length run → all_votes run ≡ field 0x21 (take 65 run) ++ all_votes (drop 65 run)
+votes_first : (vote rest : List ℕ) → length vote ≡ 65 → all_votes (vote ++ rest) ≡ field 0x21 vote ++ all_votes rest
 unfolding vote_fields
-votes_first run h =
-    let e : length run / 65 ≡ suc (length (drop 65 run) / 65) = simp length-drop (omega arith) in
-    rw e
+votes_first vote rest h =
+    let e : length (vote ++ rest) / 65 ≡ suc (length rest / 65) = simp length-append (omega arith) in
+    let front : take 65 (vote ++ rest) ≡ vote = subst (λ n. take n (vote ++ rest) ≡ vote) h (take-append_seam vote rest) in
+    let behind : drop 65 (vote ++ rest) ≡ rest = subst (λ n. drop n (vote ++ rest) ≡ rest) h (drop-append_seam vote rest) in
+    rw (e, front, behind)
 
 -- a vote is put, then those behind it
-pub put_vote : {t : List ℕ} (s : List ℕ) (place from : ℕ) (run : List ℕ) → from + 65 ≤ length run → t ≡ put s place (field 0x21 (cut run from 65)) → put t (place + 68) (all_votes (drop (from + 65) run)) ≡ put s place (all_votes (drop from run))
-put_vote s place from run h p =
-    let n : length (cut run from 65) ≡ 65 = simp (length-take, length-drop) (omega arith) in
-    rw (votes_first (drop from run) (simp length-drop (omega arith)), drop-drop)
-    (put_behind s place (field 0x21 (cut run from 65)) (all_votes (drop (from + 65) run)) p refl (simp (lengths, n)))
+pub put_vote : {t : List ℕ} (s : List ℕ) (place : ℕ) (vote rest : List ℕ) → length vote ≡ 65 → t ≡ put s place (field 0x21 vote) → put t (place + 68) (all_votes rest) ≡ put s place (all_votes (vote ++ rest))
+put_vote s place vote rest h p = rw (votes_first vote rest h) (put_behind s place (field 0x21 vote) (all_votes rest) p refl (simp (lengths, h)))
 
--- no vote is left at the end of a run
-pub put_no_vote : (s : List ℕ) (place from : ℕ) (run : List ℕ) → length run ≤ from → put s place (all_votes (drop from run)) ≡ s
+-- no vote is left where the rest is shorter than one
+pub put_no_vote : (s : List ℕ) (place : ℕ) (rest : List ℕ) → length rest < 65 → put s place (all_votes rest) ≡ s
 unfolding vote_fields put
-put_no_vote s place from run h = rw (drop_of_length-le run h)
+put_no_vote s place rest h = let none : length rest / 65 ≡ 0 = omega arith in rw none
 
 -- a field takes three bytes more than its vote
 pub length_votes : (n : ℕ) (run : List ℕ) → 65 * n ≤ length run → length (vote_fields n run) ≡ 68 * n

@@ -1,7 +1,7 @@
 // Writers. A refusal writes nothing; bytes beyond what is written stay.
 #![tactic(auto)]
 
-ghost use Rattle.std.specs.Prelude.{◌≡◌, true, ◌++◌, ◌+◌, ◌*◌, ◌/◌, ◌%◌, ◌≤◌, ◌<◌, length};
+ghost use Rattle.std.specs.Prelude.{◌≡◌, true, ◌++◌, ◌+◌, ◌*◌, ◌/◌, ◌%◌, ◌≤◌, ◌<◌, ◌^◌, length};
 ghost use Rattle.octets.specs.Octets as octets;
 ghost use Rattle.wire.specs.Fields.{field};
 ghost use Rattle.wire.specs.Messages.{is_payment, body_bytes};
@@ -9,42 +9,28 @@ ghost use Rattle.wire.specs.Votes.{vote_fields, certificate_bytes};
 ghost use Rattle.wire.specs.Writers.{written, write_body, write_order, write_funding, write_voted, write_certificate};
 
 use messages::body;
-use votes::VotesAnswer;
-use wire::answers::{BodyAnswer, Refusal, WriteAnswer};
+use octets::{FOUR, ONE, TWO};
+use votes::Votes;
+use wire::answers::Refusal;
 use wire::kinds::{Funding, Payment};
 
-// A field's tag and length.
+// A field's tag and length. Tags are literals: a type for those of one byte would be made at each call. An output and a place in it stay two arguments:
+// the definition is `put` of the output at that place, and a struct that lent the output would have each clause say that it is still the same one.
 fn put_head(out: &mut [u8], at: usize, tag: u64, n: usize)
     requires { (at + 3 ≤ length out.old) × (tag < 256) × (n < 65536) }
     ensures { out.new ≡ octets.put out.old at (octets.bytes octets.one tag ++ octets.bytes octets.two n) }
 {
-    octets::put8(out, at, tag);
-    octets::put16(out, at + 1, n as u64);
+    octets::put::<ONE>(out, at, tag);
+    octets::put::<TWO>(out, at + 1, n as u64);
 }
 
-// Fields with a number of one, two or four bytes.
-fn put_one(out: &mut [u8], at: usize, tag: u64, v: u64)
-    requires { (at + 4 ≤ length out.old) × (tag < 256) × (v < 256) }
-    ensures { out.new ≡ octets.put out.old at (field tag (octets.bytes octets.one v)) }
+// A field with a number of a width.
+fn put_number<const WIDTH: usize>(out: &mut [u8], at: usize, tag: u64, v: u64)
+    requires { (WIDTH ≤ 3) × (at + 3 + 2 ^ WIDTH ≤ length out.old) × (tag < 256) × (v < 2 ^ (8 * 2 ^ WIDTH)) }
+    ensures { out.new ≡ octets.put out.old at (field tag (octets.bytes WIDTH v)) }
 {
-    put_head(out, at, tag, 1);
-    octets::put8(out, at + 3, v);
-}
-
-fn put_two(out: &mut [u8], at: usize, tag: u64, v: u64)
-    requires { (at + 5 ≤ length out.old) × (tag < 256) × (v < 65536) }
-    ensures { out.new ≡ octets.put out.old at (field tag (octets.bytes octets.two v)) }
-{
-    put_head(out, at, tag, 2);
-    octets::put16(out, at + 3, v);
-}
-
-fn put_four(out: &mut [u8], at: usize, tag: u64, v: u64)
-    requires { (at + 7 ≤ length out.old) × (tag < 256) × (v < 4294967296) }
-    ensures { out.new ≡ octets.put out.old at (field tag (octets.bytes octets.four v)) }
-{
-    put_head(out, at, tag, 4);
-    octets::put32(out, at + 3, v);
+    put_head(out, at, tag, 1 << WIDTH);
+    octets::put::<WIDTH>(out, at + 3, v);
 }
 
 // A field with a kind and a number of two bytes.
@@ -53,8 +39,8 @@ fn put_recipient(out: &mut [u8], at: usize, kind: u64, number: u64)
     ensures { out.new ≡ octets.put out.old at (field 0x02 (octets.bytes octets.one kind ++ octets.bytes octets.two number)) }
 {
     put_head(out, at, 0x02, 3);
-    octets::put8(out, at + 3, kind);
-    octets::put16(out, at + 4, number);
+    octets::put::<ONE>(out, at + 3, kind);
+    octets::put::<TWO>(out, at + 4, number);
 }
 
 // A field with bytes.
@@ -66,69 +52,75 @@ fn put_part(out: &mut [u8], at: usize, tag: u64, part: &[u8])
     octets::copy(out, at + 3, part);
 }
 
+// In range, and no longer than a note is: `write_body` and `write_order` have both facts at hand.
 fn put_body(out: &mut [u8], at: usize, payment: Payment, note: &[u8])
     requires { (at + 25 + length note.now ≤ length out.old) × (is_payment payment ≡ true) × (length note.now ≤ 32) }
     ensures { out.new ≡ octets.put out.old at (body_bytes payment note.now) }
 {
-    put_one(out, at, 0x01, payment.sender.0);
+    put_number::<ONE>(out, at, 0x01, payment.sender.0);
     put_recipient(out, at + 4, payment.kind, payment.recipient);
-    put_four(out, at + 10, 0x03, payment.amount);
-    put_two(out, at + 17, 0x04, payment.sequence.0);
+    put_number::<FOUR>(out, at + 10, 0x03, payment.amount);
+    put_number::<TWO>(out, at + 17, 0x04, payment.sequence.0);
     put_part(out, at + 22, 0x05, note);
 }
 
-pub fn write_body(out: &mut [u8], payment: Payment, note: &[u8]) -> WriteAnswer
+pub fn write_body(out: &mut [u8], payment: Payment, note: &[u8]) -> Result<usize, Refusal>
     ensures { written result out.new ≡ write_body out.old payment note.now }
 {
     if !payment.in_range() {
-        return WriteAnswer::Refused(Refusal::OutOfRange);
+        return Err(Refusal::OutOfRange);
     }
     if note.len() > 32 {
-        return WriteAnswer::Refused(Refusal::OutOfRange);
+        return Err(Refusal::OutOfRange);
     }
     let size = 25 + note.len();
     if out.len() < size {
-        return WriteAnswer::Refused(Refusal::BufferTooSmall);
+        return Err(Refusal::BufferTooSmall);
     }
     put_body(out, 0, payment, note);
-    WriteAnswer::Wrote(size)
+    Ok(size)
 }
 
-pub fn write_order(out: &mut [u8], payment: Payment, note: &[u8], signature: &[u8]) -> WriteAnswer
+pub fn write_order(
+    out: &mut [u8],
+    payment: Payment,
+    note: &[u8],
+    signature: &[u8],
+) -> Result<usize, Refusal>
     ensures { written result out.new ≡ write_order out.old payment note.now signature.now }
 {
     if !payment.in_range() {
-        return WriteAnswer::Refused(Refusal::OutOfRange);
+        return Err(Refusal::OutOfRange);
     }
     if note.len() > 32 {
-        return WriteAnswer::Refused(Refusal::OutOfRange);
+        return Err(Refusal::OutOfRange);
     }
     if signature.len() != 64 {
-        return WriteAnswer::Refused(Refusal::OutOfRange);
+        return Err(Refusal::OutOfRange);
     }
     let size = 25 + note.len();
     if out.len() < size + 70 {
-        return WriteAnswer::Refused(Refusal::BufferTooSmall);
+        return Err(Refusal::BufferTooSmall);
     }
     put_head(out, 0, 0x10, size);
     put_body(out, 3, payment, note);
     put_part(out, size + 3, 0x11, signature);
-    WriteAnswer::Wrote(size + 70)
+    Ok(size + 70)
 }
 
-pub fn write_funding(out: &mut [u8], funding: Funding) -> WriteAnswer
+pub fn write_funding(out: &mut [u8], funding: Funding) -> Result<usize, Refusal>
     ensures { written result out.new ≡ write_funding out.old funding }
 {
     if !funding.in_range() {
-        return WriteAnswer::Refused(Refusal::OutOfRange);
+        return Err(Refusal::OutOfRange);
     }
     if out.len() < 16 {
-        return WriteAnswer::Refused(Refusal::BufferTooSmall);
+        return Err(Refusal::BufferTooSmall);
     }
-    put_two(out, 0, 0x30, funding.index.0);
-    put_one(out, 5, 0x31, funding.account.0);
-    put_four(out, 9, 0x32, funding.amount);
-    WriteAnswer::Wrote(16)
+    put_number::<TWO>(out, 0, 0x30, funding.index.0);
+    put_number::<ONE>(out, 5, 0x31, funding.account.0);
+    put_number::<FOUR>(out, 9, 0x32, funding.amount);
+    Ok(16)
 }
 
 // The votes of a run, 65 bytes each, in fields from `at` on.
@@ -136,11 +128,10 @@ fn put_votes(out: &mut [u8], at: usize, run: &[u8])
     requires { (length run.now % 65 ≡ 0) × (at + 68 * (length run.now / 65) ≤ length out.old) }
     ensures { out.new ≡ octets.put out.old at (vote_fields (length run.now / 65) run.now) }
 {
-    let mut from = 0;
+    // A place by the number of the vote, from `enumerate`, takes between two and three more instructions for each.
     let mut place = at;
-    while from < run.len() {
-        put_part(out, place, 0x21, octets::cut(run, from, votes::VOTE));
-        from += votes::VOTE;
+    for vote in run.chunks_exact(votes::VOTE) {
+        put_part(out, place, 0x21, vote);
         place += votes::VOTE_FIELD;
     }
 }
@@ -154,36 +145,35 @@ fn put_certificate(out: &mut [u8], body: &[u8], run: &[u8])
 }
 
 // The votes stand in `run` one after another, 65 bytes each: machine number, 64 signature bytes.
-pub fn write_certificate(f: u64, out: &mut [u8], body: &[u8], run: &[u8]) -> WriteAnswer
+pub fn write_certificate(f: u64, out: &mut [u8], body: &[u8], run: &[u8]) -> Result<usize, Refusal>
     ensures { written result out.new ≡ write_certificate f out.old body.now run.now }
 {
     if f > 5 {
-        return WriteAnswer::Refused(Refusal::OutOfRange);
+        return Err(Refusal::OutOfRange);
     }
     if run.len() % votes::VOTE != 0 {
-        return WriteAnswer::Refused(Refusal::Malformed);
+        return Err(Refusal::Malformed);
     }
-    match body::read_payment(body) {
-        BodyAnswer::Refused(refusal) => WriteAnswer::Refused(refusal),
-        BodyAnswer::Pays(_) => write_voted(f, out, body, run),
-    }
+    body::read_payment(body)?;
+    write_voted(f, out, body, run)
 }
 
-// The rest of the certificate writer, for a body in order and a run of whole votes.
-fn write_voted(f: u64, out: &mut [u8], body: &[u8], run: &[u8]) -> WriteAnswer
+// The rest of the certificate writer, for a body in order and a run of whole votes. Both are clauses: types that say them would be made once, here.
+fn write_voted(f: u64, out: &mut [u8], body: &[u8], run: &[u8]) -> Result<usize, Refusal>
     requires { (f ≤ 5) × (length body.now ≤ 57) × (length run.now % 65 ≡ 0) }
     ensures { written result out.new ≡ write_voted f out.old body.now run.now }
 {
     let n = run.len() / votes::VOTE;
-    match votes::count_votes(f, run, 0, votes::VOTE, n) {
-        VotesAnswer::Refused(refusal) => WriteAnswer::Refused(refusal),
-        VotesAnswer::Counted(_) => {
-            let size = body.len() + 3 + votes::VOTE_FIELD * n;
-            if out.len() < size {
-                return WriteAnswer::Refused(Refusal::BufferTooSmall);
-            }
-            put_certificate(out, body, run);
-            WriteAnswer::Wrote(size)
-        }
+    let votes = Votes {
+        bytes: run,
+        place: 0,
+        step: votes::VOTE,
+    };
+    votes.count(f, n)?;
+    let size = body.len() + 3 + votes::VOTE_FIELD * n;
+    if out.len() < size {
+        return Err(Refusal::BufferTooSmall);
     }
+    put_certificate(out, body, run);
+    Ok(size)
 }

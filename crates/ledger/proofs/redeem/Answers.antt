@@ -1,31 +1,32 @@
-use Rattle.ledger.proofs.Facts.{state_length_lem, state_faults}
+use Rattle.ledger.proofs.Facts.{state_faults}
 use Rattle.ledger.specs.Calls.{redeem, pay}
 use Rattle.ledger.specs.States.{base}
-use Rattle.states.proofs.Unless.{passed_on, goes_on, judged_by_lem}
+use Rattle.states.proofs.Unless.{handed_on, goes_on, judged_by_lem}
 use Rattle.messages.proofs.Told.{judged_told}
-use mathlib.Core.Path.{sym, ap, ◌∙◌}
-use native.Mathlib.Omega.{arith}
+use Rattle.std.specs.Prelude.{[], ◌∷◌}
+use Rattle.ledger.specs.declared.answers.Payout.{Payout}
+use mathlib.Core.Path.{ap, ◌∙◌}
 use Rattle.ledger.proofs.redeem.Goals as goal
 
-pub returns-then-not-formed : goal.returns-then-not-formed
+pub returns-in_default : goal.returns-in_default
 unfolding redeem
-returns-then-not-formed c = simp (← c.formed.ensures, c.if-not-formed.true)
-
-pub committee-committee-requires : goal.committee-committee-requires
-committee-committee-requires c = omega (arith, state_length_lem base _ (sym c.formed.ensures ∙ c.if-not-formed.false))
+returns-in_default c = simp c.in_default.ensures.value
 
 pub pay-requires : goal.pay-requires
-pay-requires c = let f = sym c.formed.ensures ∙ c.if-not-formed.false in
-    let e = judged_by_lem _ c.args.s.now _ _ (state_faults _ f) c.committee-committee.ensures c.in-Certifies.ensures in
-    (state_length_lem base _ f, (judged_told _ _ _ _ _ e).in_range)
+pay-requires c =
+    let e = judged_by_lem _ _ _ _ (state_faults _ c.in-Some.ensures.value.1) c.committee-committee.ensures c.in_ok-certified.ensures in
+    (judged_told _ _ _ _ _ e).in_range
 
-pub returns-in-Refused : goal.returns-in-Refused
+pub returns-in_err-certified : goal.returns-in_err-certified
 unfolding redeem
-returns-in-Refused c = let f = sym c.formed.ensures ∙ c.if-not-formed.false in
-    rw f (passed_on c.in-Refused.refusal _ _ (judged_by_lem _ c.args.s.now _ _ (state_faults _ f) c.committee-committee.ensures c.in-Refused.ensures))
+returns-in_err-certified c =
+    let found = c.in-Some.ensures.value in
+    let e = judged_by_lem _ _ _ _ (state_faults _ found.1) c.committee-committee.ensures c.in_err-certified.ensures in
+    rw (← found.0, found.1) (handed_on (λ (payout : Payout). payout.account ∷ payout.amount ∷ []) _ _ _ _ c.from_residual.ensures e)
 
-pub returns-in-Certifies : goal.returns-in-Certifies
+pub returns : goal.returns
 unfolding redeem
-returns-in-Certifies c = let f = sym c.formed.ensures ∙ c.if-not-formed.false in
-    let e = judged_by_lem _ c.args.s.now _ _ (state_faults _ f) c.committee-committee.ensures c.in-Certifies.ensures in
-    rw f (c.pay.ensures ∙ ap (pay base c.args.s.now) (judged_told _ c.args.message.now _ _ _ e).said ∙ goes_on _ _ _ e)
+returns c =
+    let found = c.in-Some.ensures.value in
+    let e = judged_by_lem _ _ _ _ (state_faults _ found.1) c.committee-committee.ensures c.in_ok-certified.ensures in
+    rw (← found.0, found.1) (c.pay.ensures ∙ ap (pay base _) (judged_told _ _ _ _ _ e).said ∙ goes_on _ _ _ e)

@@ -1,33 +1,18 @@
-use mathlib.Core.Path.{sym, ap, ◌∙◌}
-use borrow.Author.Tests.{eq-eqb, ne_eqb}
+use Rattle.std.proofs.Common.{[], ◌∙◌, eq-eqb}
 use Rattle.messages.proofs.Told.{funding_told}
-use Rattle.records.specs.Calls.{funding_order, credit}
-use Rattle.records.specs.States.{base}
-use Rattle.records.proofs.Facts.{state_length_lem}
-use Rattle.states.proofs.Unless.{passed_on, goes_on}
+use Rattle.records.specs.Calls.{funding_order}
+use Rattle.states.proofs.Unless.{handed_on, goes_on}
 use Rattle.machine.proofs.handle_funding.Goals as goal
 
-pub returns-then-not-formed : goal.returns-then-not-formed
+pub returns-in_err-funding : goal.returns-in_err-funding
 unfolding funding_order
-returns-then-not-formed c = simp (← c.formed.ensures, c.if-not-formed.true)
-
-pub returns-then-verdicts-ne1 : goal.returns-then-verdicts-ne1
-unfolding funding_order
-returns-then-verdicts-ne1 c = rw (← c.formed.ensures, c.if-not-formed.false, ne_eqb _ _ c.if-verdicts-ne1.true) (goes_on _ _ _ c.in-Funds.ensures)
-
-pub returns-then-not-all_good : goal.returns-then-not-all_good
-unfolding funding_order
-returns-then-not-all_good c = rw (← c.formed.ensures, c.if-not-formed.false, eq-eqb _ _ c.if-verdicts-ne1.false, ← c.all_good.ensures, c.if-not-all_good.true) (goes_on _ _ _ c.in-Funds.ensures)
+returns-in_err-funding c = rw (c.in-Some.ensures.value.0, c.in-Some.ensures.value.1) (handed_on (λ _. []) _ _ _ _ c.from_residual.ensures c.in_err-funding.ensures)
 
 pub credit-requires : goal.credit-requires
-credit-requires c = (state_length_lem _ (sym c.formed.ensures ∙ c.if-not-formed.false), (funding_told _ _ c.in-Funds.ensures).1)
+credit-requires c = (funding_told _ c.args.message.now c.in_ok-funding.ensures).1
 
-pub returns-in-Refused : goal.returns-in-Refused
+pub returns : goal.returns
 unfolding funding_order
-returns-in-Refused c = rw (← c.formed.ensures, c.if-not-formed.false) (passed_on c.in-Refused.refusal _ _ c.in-Refused.ensures)
-
-pub returns-else-not-all_good : goal.returns-else-not-all_good
-unfolding funding_order
-returns-else-not-all_good c = let e = rw c.in-Funds.is at c.read_funding.ensures in
-    rw (← c.formed.ensures, c.if-not-formed.false, eq-eqb _ _ c.if-verdicts-ne1.false, ← c.all_good.ensures, c.if-not-all_good.false)
-    (c.credit.ensures ∙ ap (credit base c.args.s.now) (funding_told _ _ e).0 ∙ goes_on _ _ _ e)
+returns c = let e = c.in_ok-funding.ensures in
+    rw (c.in-Some.ensures.value.1, eq-eqb _ _ c.if-verdicts-ne1.false, ← c.all_good.ensures, c.if-not-all_good.false)
+    (c.credit.ensures ∙ rw (c.in-Some.ensures.value.0, (funding_told _ c.args.message.now e).0) (goes_on _ _ _ e))

@@ -1,15 +1,12 @@
-use Prim.Native.Nat.{ℕ, ◌+◌}
-use mathlib.Core.Path.{refl, ap, ◌∙◌}
-use mathlib.Core.List.{List}
-use native.Mathlib.Omega.{arith}
-use lib.ListN.{set, length-set}
-use Rattle.octets.specs.Octets.{put}
-use Rattle.octets.proofs.Laws.{put_zeros}
+use Rattle.std.proofs.Common.{◌≡◌, ◌∙◌, ap, List, ℕ, ◌+◌, ◌-◌, replicate, length-take, length-drop, arith}
+use lib.ListN.{length, take, drop, length-replicate}
+use borrow.Rule.Slice.PartMut.{put_mid}
+use Rattle.octets.proofs.Parts.{part_put}
 use Rattle.octets.proofs.clear.Goals as goal
 
-pub loop-i-init : goal.loop-i-init
-unfolding put
-loop-i-init c = (omega arith, refl, refl)
-
-pub loop-i-preserved : goal.loop-i-preserved
-loop-i-preserved c = (omega arith, ap (λ (l : List ℕ). set l (c.args.at + c.loop-i.i) 0) c.loop-i.invariant.1 ∙ put_zeros _ _ c.loop-i.i, simp length-set c.loop-i.invariant.2)
+pub returns : goal.returns
+returns c =
+    let k = c.args.at + c.args.n - c.args.at in
+    let n : length (take k (drop c.args.at c.args.s.now)) ≡ c.args.n = simp (length-take, length-drop) (omega arith) in
+    ap (λ (vs : List ℕ). put_mid c.args.at (c.args.at + c.args.n - c.args.at) c.args.s.now vs) (c.fill.ensures.after (λ y e. e) ∙ ap (λ (m : ℕ). replicate m 0) n)
+    ∙ part_put c.args.s.now c.args.at c.args.n (replicate c.args.n 0) (length-replicate c.args.n 0) c.requires

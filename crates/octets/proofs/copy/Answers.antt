@@ -1,15 +1,7 @@
-use Prim.Native.Nat.{ℕ, ◌+◌}
-use mathlib.Core.Path.{refl, ap, ◌∙◌}
-use mathlib.Core.List.{List}
-use native.Mathlib.Omega.{arith}
-use lib.ListN.{get_or, set, length-set}
-use Rattle.octets.specs.Octets.{put}
-use Rattle.octets.proofs.Laws.{put_more}
+use Rattle.std.proofs.Common.{◌∙◌, ap, refl, List, ℕ, length, ◌+◌, ◌-◌}
+use borrow.Rule.Slice.PartMut.{put_mid}
+use Rattle.octets.proofs.Parts.{part_put}
 use Rattle.octets.proofs.copy.Goals as goal
 
-pub loop-i-init : goal.loop-i-init
-unfolding put
-loop-i-init c = (omega arith, refl, refl)
-
-pub loop-i-preserved : goal.loop-i-preserved
-loop-i-preserved c = (omega arith, ap (λ (l : List ℕ). set l (c.args.at + c.loop-i.i) (get_or c.args.src.now c.loop-i.i 0)) c.loop-i.invariant.1 ∙ put_more _ _ _ _ c.loop-i-test.true, simp length-set c.loop-i.invariant.2)
+pub returns : goal.returns
+returns c = ap (λ (vs : List ℕ). put_mid c.args.at (c.args.at + length c.args.src.now - c.args.at) c.args.s.now vs) c.copy_from_slice.ensures.after ∙ part_put c.args.s.now c.args.at _ c.args.src.now refl c.requires

@@ -1,11 +1,11 @@
 use Rattle.papers.specs.Papers.{written_text}
-use Rattle.refusals.proofs.RefusalLaws.{said_refused}
+use Rattle.refusals.proofs.RefusalLaws.{says_refused}
 use Rattle.papers.proofs.wrote.Goals as goal
 
-pub returns-in-Wrote : goal.returns-in-Wrote
+pub returns-in-Ok : goal.returns-in-Ok
 unfolding written_text
-returns-in-Wrote c = rw c.in-Wrote.is (rw c.up_to.ensures at c.say_hexadecimal.ensures)
+returns-in-Ok c = rw (c.in-Ok.is, ← c.up_to.ensures) c.say_hexadecimal.ensures
 
-pub returns-in-Refused : goal.returns-in-Refused
+pub returns-in-Err : goal.returns-in-Err
 unfolding written_text
-returns-in-Refused c = rw c.in-Refused.is (said_refused _ c.in-Refused.refusal _ c.refused.ensures)
+returns-in-Err c = rw c.in-Err.is (says_refused _ c.in-Err.refusal _ c.refused.ensures)

@@ -1,34 +1,28 @@
-use Prim.Native.Nat.{ℕ}
-use Rattle.records.specs.States.{base}
-use Rattle.records.proofs.Facts.{state_faults, state_length_lem}
-use Rattle.states.proofs.Unless.{passed_on, goes_on, judged_by_lem}
-use native.Mathlib.Omega.{arith}
-use mathlib.Core.List.{[], ◌∷◌}
-use mathlib.Core.Path.{sym, ap, ◌∙◌}
-use Rattle.wire.specs.Messages.{payment, inside}
-use Rattle.wire.specs.declared.kinds.Payment.{Payment}
+use Rattle.std.proofs.Common.{◌∙◌}
+use Rattle.records.proofs.Facts.{state_faults}
+use Rattle.states.proofs.Unless.{handed_on, goes_on, judged_by_lem}
 use Rattle.messages.proofs.Told.{judged_told}
-use Rattle.records.specs.Calls.{certificate, settle}
+use Rattle.records.specs.Answers.{confirmation_values}
+use Rattle.records.specs.Calls.{certificate}
 use Rattle.settling.proofs.handle_certificate.Goals as goal
 
-pub returns-then-not-formed : goal.returns-then-not-formed
+pub returns-in_err-certified : goal.returns-in_err-certified
 unfolding certificate
-returns-then-not-formed c = simp (← c.formed.ensures, c.if-not-formed.true)
-
-pub committee-committee-requires : goal.committee-committee-requires
-committee-committee-requires c = omega (arith, state_length_lem _ (sym c.formed.ensures ∙ c.if-not-formed.false))
+returns-in_err-certified c =
+    let f = c.in-Some.ensures.value.1 in
+    let e = judged_by_lem _ _ _ _ (state_faults _ f) (rw c.in-Some.ensures.value.0 at c.committee-committee.ensures) c.in_err-certified.ensures in
+    rw (c.in-Some.ensures.value.0, f) (handed_on confirmation_values _ _ _ _ c.from_residual.ensures e)
 
 pub settle-requires : goal.settle-requires
-settle-requires c = let f = sym c.formed.ensures ∙ c.if-not-formed.false in let e = judged_by_lem _ c.args.s.now _ _ (state_faults _ f) c.committee-committee.ensures c.in-Certifies.ensures in (state_length_lem _ f, (judged_told _ _ _ _ _ e).in_range)
+settle-requires c =
+    let f = c.in-Some.ensures.value.1 in
+    let e = judged_by_lem _ _ _ _ (state_faults _ f) (rw c.in-Some.ensures.value.0 at c.committee-committee.ensures) c.in_ok-certified.ensures in
+    (judged_told _ _ _ _ _ e).in_range
 
-pub returns-in-Refused : goal.returns-in-Refused
+pub returns : goal.returns
 unfolding certificate
-returns-in-Refused c = let f = sym c.formed.ensures ∙ c.if-not-formed.false in rw f (passed_on c.in-Refused.refusal _ _ (judged_by_lem _ c.args.s.now _ _ (state_faults _ f) c.committee-committee.ensures c.in-Refused.ensures))
-
-pub returns-in-Certifies : goal.returns-in-Certifies
-unfolding certificate
-returns-in-Certifies c = let m = c.args.message.now in
-    let f = sym c.formed.ensures ∙ c.if-not-formed.false in
-    let e = judged_by_lem _ c.args.s.now _ _ (state_faults _ f) c.committee-committee.ensures c.in-Certifies.ensures in
+returns c = let m = c.args.message.now in
+    let f = c.in-Some.ensures.value.1 in
+    let e = judged_by_lem _ _ _ _ (state_faults _ f) (rw c.in-Some.ensures.value.0 at c.committee-committee.ensures) c.in_ok-certified.ensures in
     let j = judged_told _ m _ _ _ e in
-    rw f (c.settle.ensures ∙ ap (λ (p : Payment). settle base c.args.s.now p (c.in-Certifies.machines ∷ [])) j.said ∙ ap (settle base c.args.s.now (payment (inside m))) (ap (λ (n : ℕ). n ∷ []) j.count) ∙ goes_on _ _ _ e)
+    rw f (c.settle.ensures ∙ rw (c.in-Some.ensures.value.0, j.said, j.count) (goes_on _ _ _ e))

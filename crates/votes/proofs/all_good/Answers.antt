@@ -1,13 +1,11 @@
+use Rattle.std.proofs.Common.{eqb, rules, tests}
 use mathlib.Core.Path.{◌∙◌}
-use native.Mathlib.Omega.{arith}
-use Rattle.votes.proofs.Tallies.{good_more, good_stop, good_end}
+use Rattle.std.proofs.lemmas.Iterator.{YieldsList-from_slice}
+use Rattle.std.proofs.lemmas.Iterator.Search.{all_from_yields_List}
+use Rattle.votes.proofs.Tallies.{good_all}
 use Rattle.votes.proofs.all_good.Goals as goal
 
-pub returns-then-verdicts-i-ne1 : goal.returns-then-verdicts-i-ne1
-returns-then-verdicts-i-ne1 c = cc (good_stop _ _ c.loop-i-test.true c.if-verdicts-i-ne1.true)
-
-pub loop-i-preserved : goal.loop-i-preserved
-loop-i-preserved c = (omega arith, c.loop-i.invariant.1 ∙ good_more _ _ c.loop-i-test.true c.if-verdicts-i-ne1.false)
-
 pub returns : goal.returns
-returns c = cc (good_end _ _ c.loop-i-test.false)
+returns c =
+    all_from_yields_List (λ v. eqb v 1) _ _ _ c.all.ensures.ran (YieldsList-from_slice c.args.verdicts.now cc) (λ x b q k. search (rules, tests))
+    ∙ good_all _

@@ -1,7 +1,7 @@
 use Rattle.wording.specs.Answers.{account_text}
-use Rattle.refusals.proofs.RefusalLaws.{said_refused}
+use Rattle.refusals.proofs.RefusalLaws.{says_refused}
 use Rattle.wording.proofs.account.Goals as goal
 
-pub returns-in-Refused : goal.returns-in-Refused
+pub returns-in-Err : goal.returns-in-Err
 unfolding account_text
-returns-in-Refused c = rw c.in-Refused.is (said_refused _ c.in-Refused.refusal _ c.refused.ensures)
+returns-in-Err c = rw c.in-Err.is (says_refused _ c.in-Err.refusal _ c.refused.ensures)

@@ -1,8 +1,7 @@
 use Rattle.text.specs.Ascii.{ascii}
-use Rattle.text.proofs.PageLaws.{said_then_two}
+use Rattle.text.proofs.PageLaws.{says_then_two}
 use Rattle.wording.proofs.entry.Goals as goal
 
 pub returns : goal.returns
 unfolding ascii
-returns c =
-    said_then_two _ _ _ _ c.say_numbered-next.ensures c.say_numbered.ensures
+returns c = says_then_two _ _ _ _ c.say_numbered.ensures c.say_numbered-2.ensures

@@ -1,15 +1,13 @@
 use Rattle.text.specs.Ascii.{ascii}
-use Rattle.text.proofs.PageLaws.{said_then}
+use Rattle.text.proofs.PageLaws.{says_then}
 use Rattle.wording.specs.Answers.{fund_text}
-use Rattle.refusals.proofs.RefusalLaws.{said_refused}
+use Rattle.refusals.proofs.RefusalLaws.{says_refused}
 use Rattle.wording.proofs.fund.Goals as goal
 
-pub returns-in-Funded : goal.returns-in-Funded
+pub returns-in-Ok : goal.returns-in-Ok
 unfolding ascii fund_text
-returns-in-Funded c =
-    rw c.in-Funded.is
-    (said_then _ _ _ (said_then _ _ _ c.say_numbered-numbered.ensures c.say-next.ensures) c.say_hexadecimal.ensures)
+returns-in-Ok c = rw c.in-Ok.is (says_then _ _ _ (says_then _ _ _ c.say_numbered.ensures c.say.ensures) c.say_hexadecimal.ensures)
 
-pub returns-in-Refused : goal.returns-in-Refused
+pub returns-in-Err : goal.returns-in-Err
 unfolding fund_text
-returns-in-Refused c = rw c.in-Refused.is (said_refused _ c.in-Refused.refusal _ c.refused.ensures)
+returns-in-Err c = rw c.in-Err.is (says_refused _ c.in-Err.refusal _ c.refused.ensures)

@@ -1,12 +1,12 @@
 use Rattle.text.specs.Ascii.{ascii}
 use Rattle.wording.specs.Answers.{funding_text}
-use Rattle.refusals.proofs.RefusalLaws.{said_refused}
+use Rattle.refusals.proofs.RefusalLaws.{says_refused}
 use Rattle.wording.proofs.funding.Goals as goal
 
-pub returns-in-Credited : goal.returns-in-Credited
+pub returns-in-Ok : goal.returns-in-Ok
 unfolding ascii funding_text
-returns-in-Credited c = rw c.in-Credited.is c.say.ensures
+returns-in-Ok c = rw c.in-Ok.is c.say.ensures
 
-pub returns-in-Refused : goal.returns-in-Refused
+pub returns-in-Err : goal.returns-in-Err
 unfolding funding_text
-returns-in-Refused c = rw c.in-Refused.is (said_refused _ c.in-Refused.refusal _ c.refused.ensures)
+returns-in-Err c = rw c.in-Err.is (says_refused _ c.in-Err.refusal _ c.refused.ensures)

@@ -5,6 +5,6 @@ pub returns-then-used : goal.returns-then-used
 unfolding ascii
 returns-then-used c = rw c.if-used.true c.say.ensures
 
-pub returns : goal.returns
+pub returns-else-used : goal.returns-else-used
 unfolding ascii
-returns c = rw c.if-used.false c.say-2.ensures
+returns-else-used c = rw c.if-used.false c.say-else-used.ensures

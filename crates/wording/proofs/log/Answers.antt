@@ -1,17 +1,17 @@
 use Rattle.text.specs.Ascii.{ascii}
-use Rattle.text.proofs.PageLaws.{said_then}
+use Rattle.text.proofs.PageLaws.{says_then}
 use Rattle.wording.specs.Answers.{log_text}
-use Rattle.refusals.proofs.RefusalLaws.{said_refused}
+use Rattle.refusals.proofs.RefusalLaws.{says_refused}
 use Rattle.wording.proofs.log.Goals as goal
 
-pub returns-in-Redeemed : goal.returns-in-Redeemed
+pub returns-in-Ok-true : goal.returns-in-Ok-true
 unfolding ascii log_text
-returns-in-Redeemed c = rw c.in-Redeemed.is (said_then _ _ _ c.entry-next.ensures c.say.ensures)
+returns-in-Ok-true c = rw (c.in-Ok-true.is, c.in-Ok-true.field-0-test) (says_then _ _ _ c.entry.ensures c.say.ensures)
 
-pub returns-in-Unredeemed : goal.returns-in-Unredeemed
+pub returns-in-Ok-false : goal.returns-in-Ok-false
 unfolding ascii log_text
-returns-in-Unredeemed c = rw c.in-Unredeemed.is (said_then _ _ _ c.entry-next-in-Unredeemed.ensures c.say-in-Unredeemed.ensures)
+returns-in-Ok-false c = rw (c.in-Ok-false.is, c.in-Ok-false.field-0-test) (says_then _ _ _ c.entry-in-Ok-false.ensures c.say-in-Ok-false.ensures)
 
-pub returns-in-Refused : goal.returns-in-Refused
+pub returns-in-Err : goal.returns-in-Err
 unfolding log_text
-returns-in-Refused c = rw c.in-Refused.is (said_refused _ c.in-Refused.refusal _ c.refused.ensures)
+returns-in-Err c = rw c.in-Err.is (says_refused _ c.in-Err.refusal _ c.refused.ensures)

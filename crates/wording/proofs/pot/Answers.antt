@@ -1,14 +1,13 @@
 use Rattle.text.specs.Ascii.{ascii}
-use Rattle.text.proofs.PageLaws.{said_then_two}
+use Rattle.text.proofs.PageLaws.{says_then_two}
 use Rattle.wording.specs.Answers.{pot_text}
-use Rattle.refusals.proofs.RefusalLaws.{said_refused}
+use Rattle.refusals.proofs.RefusalLaws.{says_refused}
 use Rattle.wording.proofs.pot.Goals as goal
 
-pub returns-in-Holds : goal.returns-in-Holds
+pub returns-in-Ok : goal.returns-in-Ok
 unfolding ascii pot_text
-returns-in-Holds c =
-    rw c.in-Holds.is (said_then_two _ _ _ _ c.say_numbered-next.ensures c.say_numbered.ensures)
+returns-in-Ok c = rw c.in-Ok.is (says_then_two _ _ _ _ c.say_numbered.ensures c.say_numbered-in-Ok.ensures)
 
-pub returns-in-Refused : goal.returns-in-Refused
+pub returns-in-Err : goal.returns-in-Err
 unfolding pot_text
-returns-in-Refused c = rw c.in-Refused.is (said_refused _ c.in-Refused.refusal _ c.refused.ensures)
+returns-in-Err c = rw c.in-Err.is (says_refused _ c.in-Err.refusal _ c.refused.ensures)

@@ -1,14 +1,13 @@
 use Rattle.text.specs.Ascii.{ascii}
-use Rattle.text.proofs.PageLaws.{said_then_two}
+use Rattle.text.proofs.PageLaws.{says_then_two}
 use Rattle.wording.specs.Answers.{redeem_text}
-use Rattle.refusals.proofs.RefusalLaws.{said_refused}
+use Rattle.refusals.proofs.RefusalLaws.{says_refused}
 use Rattle.wording.proofs.redeem.Goals as goal
 
-pub returns-in-Paid : goal.returns-in-Paid
+pub returns-in-Ok : goal.returns-in-Ok
 unfolding ascii redeem_text
-returns-in-Paid c =
-    rw c.in-Paid.is (said_then_two _ _ _ _ c.say_numbered-next.ensures c.say_numbered.ensures)
+returns-in-Ok c = rw c.in-Ok.is (says_then_two _ _ _ _ c.say_numbered.ensures c.say_numbered-in-Ok.ensures)
 
-pub returns-in-Refused : goal.returns-in-Refused
+pub returns-in-Err : goal.returns-in-Err
 unfolding redeem_text
-returns-in-Refused c = rw c.in-Refused.is (said_refused _ c.in-Refused.refusal _ c.refused.ensures)
+returns-in-Err c = rw c.in-Err.is (says_refused _ c.in-Err.refusal _ c.refused.ensures)

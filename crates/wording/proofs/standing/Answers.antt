@@ -1,13 +1,13 @@
-use borrow.Author.Tests.{eq-eqb, ne_eqb}
+use mathlib.Core.Path.{sym, ◌∙◌}
 use Rattle.text.specs.Ascii.{ascii}
-use Rattle.text.proofs.PageLaws.{said_then}
+use Rattle.text.proofs.PageLaws.{says_then}
 use Rattle.wording.specs.Answers.{standing_text}
 use Rattle.wording.proofs.standing.Goals as goal
 
-pub returns-then-body-eq0 : goal.returns-then-body-eq0
+pub returns-then-is_empty : goal.returns-then-is_empty
 unfolding ascii standing_text
-returns-then-body-eq0 c = rw (eq-eqb _ _ c.if-body-eq0.true) c.say.ensures
+returns-then-is_empty c = rw (sym c.is_empty.ensures ∙ c.if-is_empty.true) c.say.ensures
 
-pub returns : goal.returns
+pub returns-else-is_empty : goal.returns-else-is_empty
 unfolding ascii standing_text
-returns c = rw (ne_eqb _ _ c.if-body-eq0.false) (said_then _ _ _ c.say-next.ensures c.say_hexadecimal.ensures)
+returns-else-is_empty c = rw (sym c.is_empty.ensures ∙ c.if-is_empty.false) (says_then _ _ _ c.say-else-is_empty.ensures c.say_hexadecimal.ensures)

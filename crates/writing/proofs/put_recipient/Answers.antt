@@ -6,5 +6,5 @@ pub returns : goal.returns
 returns c =
     put_value _ _ _ _
     c.put_head.ensures
-    (put_behind _ _ _ _ c.put8.ensures c.put16.ensures (simp lengths (omega arith)))
+    (put_behind _ _ _ _ c.put.ensures c.put-2.ensures (simp lengths (omega arith)))
     (simp lengths)

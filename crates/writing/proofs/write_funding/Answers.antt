@@ -13,14 +13,14 @@ pub returns-then-out-lt16 : goal.returns-then-out-lt16
 unfolding write_funding
 returns-then-out-lt16 c = simp (sym c.in_range.ensures ∙ c.if-not-in_range.false) (writes_small _ _ (length_funding _) c.if-out-lt16.true)
 
-pub put_two-requires : goal.put_two-requires
-put_two-requires c = let fits = funding_fits _ (sym c.in_range.ensures ∙ c.if-not-in_range.false) in search rules
+pub put_number-requires : goal.put_number-requires
+put_number-requires c = let fits = funding_fits _ (sym c.in_range.ensures ∙ c.if-not-in_range.false) in search rules
 
-pub put_one-requires : goal.put_one-requires
-put_one-requires c = let fits = funding_fits _ (sym c.in_range.ensures ∙ c.if-not-in_range.false) in search rules
+pub put_number-requires-2 : goal.put_number-requires-2
+put_number-requires-2 c = let fits = funding_fits _ (sym c.in_range.ensures ∙ c.if-not-in_range.false) in search rules
 
-pub put_four-requires : goal.put_four-requires
-put_four-requires c = let fits = funding_fits _ (sym c.in_range.ensures ∙ c.if-not-in_range.false) in search rules
+pub put_number-requires-3 : goal.put_number-requires-3
+put_number-requires-3 c = let fits = funding_fits _ (sym c.in_range.ensures ∙ c.if-not-in_range.false) in search rules
 
 pub returns : goal.returns
 unfolding write_funding funding_bytes
@@ -28,6 +28,6 @@ returns c =
     simp (sym c.in_range.ensures ∙ c.if-not-in_range.false)
     (writes_room _ _ (length_funding _) c.if-out-lt16.false
     (put_behind _ _ _ _
-    c.put_two.ensures
-    (put_behind _ _ _ _ c.put_one.ensures c.put_four.ensures (simp lengths))
+    c.put_number.ensures
+    (put_behind _ _ _ _ c.put_number-2.ensures c.put_number-3.ensures (simp lengths))
     (simp lengths)))

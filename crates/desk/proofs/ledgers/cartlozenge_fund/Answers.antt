@@ -5,5 +5,5 @@ use Rattle.desk.specs.Theorems.{fund_says}
 use Rattle.desk.proofs.Crossing.{fits}
 use Rattle.desk.proofs.ledgers.cartlozenge_fund.Goals as goal
 
-pub of_fund-requires : goal.of_fund-requires
-of_fund-requires c = fits fund_bits (ap (λ (o : FundOutcome). o.answer) c.fund.ensures) (fund_says _ _ _ _)
+pub of-requires : goal.of-requires
+of-requires c = fits fund_bits (ap (λ (o : FundOutcome). o.answer) c.fund.ensures) (fund_says _ _ _ _)

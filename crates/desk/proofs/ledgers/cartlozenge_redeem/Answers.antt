@@ -5,5 +5,5 @@ use Rattle.desk.specs.Theorems.{redeem_says}
 use Rattle.desk.proofs.Crossing.{fits}
 use Rattle.desk.proofs.ledgers.cartlozenge_redeem.Goals as goal
 
-pub of_redeem-requires : goal.of_redeem-requires
-of_redeem-requires c = fits redeem_bits (ap (λ (o : Outcome). o.answer) c.redeem.ensures) (redeem_says _ _ _)
+pub of-requires : goal.of-requires
+of-requires c = fits redeem_bits (ap (λ (o : Outcome). o.answer) c.redeem.ensures) (redeem_says _ _ _)

@@ -1,16 +1,14 @@
+use mathlib.Core.Path.{sym}
 use native.Mathlib.Omega.{arith}
 use mir.Syntax.{w64}
 use mir.Facts.{to_z-of_z}
-use Rattle.writing.proofs.Written.{put_behind}
-use Rattle.desk.proofs.Crossing.{account_crossed, refusal_read}
+use Rattle.desk.proofs.Crossing.{bit_byte, account_crossed, refusal_read}
 use Rattle.desk.proofs.machines.cartlozenge_account.Goals as goal
 
-pub returns-in-Shows : goal.returns-in-Shows
-returns-in-Shows c =
-    let back = to_z-of_z {w = w64} {z = c.in-Shows.shown.balance} (record { sfits = omega arith }) in
-    account_crossed _ _
-    (put_behind _ _ _ _ c.set.ensures (put_behind _ _ _ _ c.set-in-Shows.ensures c.set-in-Shows-2.ensures (omega arith)) (omega arith))
-    (rw (c.bit.ensures, back) c.in-Shows.ensures)
+pub returns-in-Ok : goal.returns-in-Ok
+returns-in-Ok c =
+    let back = to_z-of_z {w = w64} {z = c.in-Ok.reading.balance} (record { sfits = omega arith }) in
+    account_crossed _ _ (sym c.told-values) (rw (c.from.ensures, bit_byte, back) c.in-Ok.ensures)
 
-pub returns-in-Refused : goal.returns-in-Refused
-returns-in-Refused c = refusal_read c.in-Refused.refusal _ _ c.number.ensures c.in-Refused.ensures
+pub returns-in-Err : goal.returns-in-Err
+returns-in-Err c = refusal_read c.in-Err.refusal _ _ c.number.ensures c.in-Err.ensures

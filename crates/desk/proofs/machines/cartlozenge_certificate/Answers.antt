@@ -5,5 +5,5 @@ use Rattle.desk.specs.Theorems.{certificate_says}
 use Rattle.desk.proofs.Crossing.{fits}
 use Rattle.desk.proofs.machines.cartlozenge_certificate.Goals as goal
 
-pub of_certificate-requires : goal.of_certificate-requires
-of_certificate-requires c = fits certificate_bits (ap (λ (o : Outcome). o.answer) c.handle_certificate.ensures) (certificate_says _ _ _)
+pub of-requires : goal.of-requires
+of-requires c = fits certificate_bits (ap (λ (o : Outcome). o.answer) c.handle_certificate.ensures) (certificate_says _ _ _)

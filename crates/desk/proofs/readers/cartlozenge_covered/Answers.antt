@@ -4,5 +4,5 @@ use Rattle.desk.specs.Theorems.{covered_says}
 use Rattle.desk.proofs.Crossing.{fits}
 use Rattle.desk.proofs.readers.cartlozenge_covered.Goals as goal
 
-pub of_covered-requires : goal.of_covered-requires
-of_covered-requires c = fits stretch_bits (ap stretch_said c.covered_at.ensures.0) (covered_says _)
+pub of-requires : goal.of-requires
+of-requires c = fits stretch_bits (ap stretch_said c.covered_at.ensures.0) (covered_says _)

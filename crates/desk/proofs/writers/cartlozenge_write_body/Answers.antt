@@ -5,5 +5,5 @@ use Rattle.desk.specs.Theorems.{body_says}
 use Rattle.desk.proofs.Crossing.{fits}
 use Rattle.desk.proofs.writers.cartlozenge_write_body.Goals as goal
 
-pub of_written-requires : goal.of_written-requires
-of_written-requires c = fits written_bits (ap (λ (w : Written). w.answer) c.write_body.ensures) (body_says _ _ _)
+pub of-requires : goal.of-requires
+of-requires c = fits written_bits (ap (λ (w : Written). w.answer) c.write_body.ensures) (body_says _ _ _)

@@ -5,5 +5,5 @@ use Rattle.desk.specs.Theorems.{funding_says}
 use Rattle.desk.proofs.Crossing.{fits}
 use Rattle.desk.proofs.writers.cartlozenge_write_funding_order.Goals as goal
 
-pub of_written-requires : goal.of_written-requires
-of_written-requires c = fits written_bits (ap (λ (w : Written). w.answer) c.write_funding.ensures) (funding_says _ _)
+pub of-requires : goal.of-requires
+of-requires c = fits written_bits (ap (λ (w : Written). w.answer) c.write_funding.ensures) (funding_says _ _)

@@ -5,5 +5,5 @@ use Rattle.desk.specs.Theorems.{order_written_says}
 use Rattle.desk.proofs.Crossing.{fits}
 use Rattle.desk.proofs.writers.cartlozenge_write_order.Goals as goal
 
-pub of_written-requires : goal.of_written-requires
-of_written-requires c = fits written_bits (ap (λ (w : Written). w.answer) c.write_order.ensures) (order_written_says _ _ _ _)
+pub of-requires : goal.of-requires
+of-requires c = fits written_bits (ap (λ (w : Written). w.answer) c.write_order.ensures) (order_written_says _ _ _ _)

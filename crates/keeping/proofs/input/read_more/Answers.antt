@@ -2,5 +2,7 @@
 use Rattle.text.proofs.ArrivalLaws.{grows_more}
 use Rattle.keeping.proofs.input.read_more.Goals as goal
 
-pub returns-else-n-eq0 : goal.returns-else-n-eq0
-returns-else-n-eq0 c = grows_more c.args.buffer.now _ c.args.held c.in-Ok.n c.in-Ok.ensures.kept
+pub returns-in-Ok-clause-grows : goal.returns-in-Ok-clause-grows
+returns-in-Ok-clause-grows c =
+    let input = c.args.input.now in
+    grows_more input.buffer.now _ (record { filled = input.filled; skips = input.skips }) c.in-Ok.n c.in-Ok.ensures.kept

@@ -1,7 +1,8 @@
 -- The state was noted already.
-use Rattle.std.proofs.Common.{sym, ◌∙◌}
+use Rattle.std.proofs.lemmas.Bool.Decides.{Decides-eqb}
+use Rattle.std.proofs.lemmas.Slice.Eq.{slice_eq-Decides}
 use Rattle.keeping.proofs.SavingLaws.{noted_same}
 use Rattle.keeping.proofs.saving.save.Goals as goal
 
-pub returns-then-same : goal.returns-then-same
-returns-then-same c = λ _. noted_same _ _ (sym c.same.ensures ∙ c.if-same.true)
+pub returns-then-eq : goal.returns-then-eq
+returns-then-eq c = noted_same _ _ ((slice_eq-Decides Decides-eqb _ _ _ c.eq.ensures).0 c.if-eq.true)

@@ -1,13 +1,12 @@
-use mathlib.Core.Path.{sym, ◌∙◌}
-use native.Mathlib.Omega.{arith}
-use Rattle.lines.proofs.FileLaws.{records_more, records_stop, records_none}
+use mathlib.Core.Path.{refl, ◌∙◌}
+use Rattle.std.proofs.Common.{rules}
+use Rattle.std.proofs.lemmas.Iterator.{YieldsList-from_range}
+use Rattle.std.proofs.lemmas.Iterator.Search.{all_from_yields_List}
+use Rattle.records.specs.States as records
+use Rattle.lines.proofs.FileLaws.{records_all}
 use Rattle.lines.proofs.files.are_records.Goals as goal
 
-pub returns-then-not-formed : goal.returns-then-not-formed
-returns-then-not-formed c = sym (c.loop-account.invariant.1 ∙ records_stop _ _ c.loop-account-test.true (sym c.formed.ensures ∙ c.if-not-formed.true))
-
-pub loop-account-preserved : goal.loop-account-preserved
-loop-account-preserved c = (omega arith, c.loop-account.invariant.1 ∙ records_more _ _ c.loop-account-test.true (sym c.formed.ensures ∙ c.if-not-formed.false))
-
 pub returns : goal.returns
-returns c = sym (c.loop-account.invariant.1 ∙ records_none _ _ (omega arith))
+returns c =
+    all_from_yields_List (records.is_formed records.base c.args.s.now) _ _ _ c.all.ensures.ran (YieldsList-from_range 0 64 64 refl refl) (λ x b q k. search rules)
+    ∙ records_all c.args.s.now 64

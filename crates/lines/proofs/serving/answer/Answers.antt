@@ -4,4 +4,4 @@ use Rattle.lines.proofs.serving.answer.Goals as goal
 
 pub returns : goal.returns
 unfolding ascii
-returns c = reply_ends _ _ _ _ c.reply-next.ensures c.say.ensures
+returns c = reply_ends _ _ _ _ c.reply.ensures c.say.ensures

@@ -1,9 +1,10 @@
-use mathlib.Core.Path.{sym}
+use mathlib.Core.Path.{refl, sym, ◌∙◌}
+use borrow.Author.Tests.{eqb-true}
 use Rattle.text.proofs.PageLaws.{said_nothing}
 use Rattle.lines.proofs.serving.finish.Goals as goal
 
-pub returns-then-held : goal.returns-then-held
-returns-then-held c = rw c.if-held.true (sym (said_nothing _))
+pub returns-then-input : goal.returns-then-input
+returns-then-input c = (refl, rw c.if-input.true (sym (said_nothing _)))
 
-pub returns-then-up_to-eq0 : goal.returns-then-up_to-eq0
-returns-then-up_to-eq0 c = rw (c.if-held.false, ← c.up_to.ensures, c.if-up_to-eq0.true) (sym (said_nothing _))
+pub returns-then-is_empty : goal.returns-then-is_empty
+returns-then-is_empty c = (refl, rw (c.if-input.false, ← c.bytes.ensures, eqb-true _ _ (sym c.is_empty.ensures ∙ c.if-is_empty.true)) (sym (said_nothing _)))

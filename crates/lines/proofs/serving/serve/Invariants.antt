@@ -9,7 +9,9 @@ use Rattle.lines.proofs.serving.serve.Given as goal
 
 abbrev pub invariant-loop-role : goal.invariant-loop-role
 invariant-loop-role l =
-    (l.from ≤ length l.input) × (length l.state ≡ length l.initial.state) × (length l.out ≡ length l.initial.out) × Left l.role l.input l.from (desk l.state (page l.out l.at)) (served l.role l.input (desk l.initial.state (page l.initial.out 0)))
+    (l.from ≤ length l.input)
+    × (l.page.bytes.ghost_name ≡ l.initial.page.bytes.ghost_name)
+    × Left l.role l.input l.from (desk l.state (page l.page.bytes.now l.page.length)) (served l.role l.input (desk l.initial.state (page l.initial.page.bytes.now l.initial.page.length)))
 
 abbrev pub decreases-loop-role : goal.decreases-loop-role
 decreases-loop-role l = length l.input - l.from

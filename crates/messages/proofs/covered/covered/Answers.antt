@@ -4,4 +4,4 @@ use Rattle.messages.proofs.covered.covered.Goals as goal
 
 pub returns : goal.returns
 returns c = let m = c.args.message.now in
-    c.cut.ensures.0 ∙ ap (cut_at m) c.covered_at-at.ensures.0 ∙ sym (covered_cut m)
+    c.cut.ensures.0 ∙ ap (cut_at m) c.covered_at-place.ensures.0 ∙ sym (covered_cut m)

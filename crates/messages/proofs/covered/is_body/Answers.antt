@@ -1,9 +1,6 @@
-use mathlib.Core.Path.{sym}
-use Rattle.messages.proofs.Onward.{payment_read, payment_refused}
+use mathlib.Core.Path.{◌∙◌}
+use Rattle.messages.proofs.Onward.{payment_tells}
 use Rattle.messages.proofs.covered.is_body.Goals as goal
 
-pub returns-in-Pays : goal.returns-in-Pays
-returns-in-Pays c = let q = payment_read c.args.body.now c.in-Pays.ensures in sym (simp (q.0, q.1))
-
-pub returns-in-Refused : goal.returns-in-Refused
-returns-in-Refused c = sym (payment_refused c.args.body.now _ c.in-Refused.ensures)
+pub returns : goal.returns
+returns c = let v = c.is_ok.ensures.value in c.is_ok.ensures.value ∙ payment_tells _ _ c.read_payment.ensures

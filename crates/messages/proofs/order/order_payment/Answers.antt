@@ -1,10 +1,12 @@
-use mathlib.Core.List.{[], ◌∷◌}
-use Rattle.wire.specs.Fields.{want}
-use Rattle.wire.proofs.Laid.{enclosed, not_enclosed}
+use native.Mathlib.Omega.{arith}
+use Rattle.wire.specs.Readers.{read_payment}
+use mathlib.Core.Path.{ap, ◌∙◌}
+use Rattle.messages.proofs.Places.{order_encloses}
 use Rattle.messages.proofs.order.order_payment.Goals as goal
 
-pub returns-then-order_end-eq-LOST : goal.returns-then-order_end-eq-LOST
-returns-then-order_end-eq-LOST c = simp (not_enclosed c.args.message.now 0x10 (want 0x11 64 64 ∷ []) c.order_end.result c.order_end.ensures c.if-order_end-eq-LOST.true)
+pub cut-requires : goal.cut-requires
+cut-requires c = let d = (order_encloses c.args.message.now c.in-Some.ensures).1 in omega arith
 
-pub enclosed-requires : goal.enclosed-requires
-enclosed-requires c = (enclosed c.args.message.now 0x10 (want 0x11 64 64 ∷ []) c.order_end.result c.order_end.ensures c.if-order_end-eq-LOST.false).whole
+pub returns : goal.returns
+returns c = let d = order_encloses c.args.message.now c.in-Some.ensures in
+    simp d.0 (c.read_payment.ensures ∙ ap read_payment (c.cut.ensures.0 ∙ d.1.body))

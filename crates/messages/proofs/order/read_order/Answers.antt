@@ -2,6 +2,7 @@ use Prim.Native.Nat.{ℕ, ◌+◌}
 use mathlib.Core.List.{List, []}
 use mathlib.Core.Path.{◌≡◌, sym, ap, ◌∙◌}
 use native.Mathlib.Omega.{arith}
+use Rattle.std.proofs.lemmas.Result.{err_from_is_err_and}
 use Rattle.octets.specs.Octets.{cut}
 use Rattle.wire.specs.declared.kinds.Note.{Note}
 use Rattle.wire.specs.Readers.{OrderShown, read_order_payment, is_order, held, note_held, read_order}
@@ -18,31 +19,34 @@ shown : (m : List ℕ) (a : Said) (n : Note) (s : List ℕ) → a ≡ read_order
 unfolding read_order
 shown m a n s e f g = λ i. record { answer = e i; note = f i; signature = g i }
 
+pub returns-in_err-payment : goal.returns-in_err-payment
+returns-in_err-payment c =
+    let m = c.args.message.now in
+    let e = c.in_err-payment.ensures in
+    let q = order_refused m _ e in
+    let p = err_from_is_err_and c.from_residual.result c.from_residual.ensures.1 in
+    rw (p.1, p.2) (shown m _ _ _ e (ap note_held (sym (simp q))) (ap (held 64) (sym (simp q))))
+
 pub enclosed-inside-requires : goal.enclosed-inside-requires
-enclosed-inside-requires c = let d = order_facts c.args.message.now c.in-Pays.ensures in omega arith
+enclosed-inside-requires c = let d = order_facts c.args.message.now c.in_ok-payment.ensures in omega arith
 
 pub overflow_sub-size : goal.overflow_sub-size
-overflow_sub-size c = let d = order_facts c.args.message.now c.in-Pays.ensures in omega (arith, c.enclosed-inside.ensures.1)
+overflow_sub-size c = let d = order_facts c.args.message.now c.in_ok-payment.ensures in omega (arith, c.enclosed-inside.ensures.1)
 
-pub cut-requires-in-Pays : goal.cut-requires-in-Pays
-cut-requires-in-Pays c = let d = order_facts c.args.message.now c.in-Pays.ensures in omega (arith, c.enclosed-inside.ensures.1)
+pub cut-requires : goal.cut-requires
+cut-requires c = let d = order_facts c.args.message.now c.in_ok-payment.ensures in omega (arith, c.enclosed-inside.ensures.1)
 
-pub note_of-requires-in-Pays : goal.note_of-requires-in-Pays
-note_of-requires-in-Pays c = let d = order_facts c.args.message.now c.in-Pays.ensures in omega (arith, c.enclosed-inside.ensures.1, c.cut-in-Pays.ensures.1)
+pub note_of-requires : goal.note_of-requires
+note_of-requires c = let d = order_facts c.args.message.now c.in_ok-payment.ensures in omega (arith, c.enclosed-inside.ensures.1, c.cut.ensures.1)
 
-pub cut-requires-in-Pays-2 : goal.cut-requires-in-Pays-2
-cut-requires-in-Pays-2 c = let d = order_facts c.args.message.now c.in-Pays.ensures in omega (arith, c.enclosed-inside.ensures.1)
+pub cut-requires-2 : goal.cut-requires-2
+cut-requires-2 c = let d = order_facts c.args.message.now c.in_ok-payment.ensures in omega (arith, c.enclosed-inside.ensures.1)
 
-pub returns-in-Refused : goal.returns-in-Refused
-returns-in-Refused c = let m = c.args.message.now in
-    let e = rw c.in-Refused.is at c.order_payment-answer.ensures in
-    let q = order_refused m _ e in
-    shown m _ _ _ e (c.note_of.ensures ∙ ap note_held (c.cut.ensures.0 ∙ sym (simp q))) (c.signature_of.ensures ∙ ap (held 64) (c.cut-in-Refused.ensures.0 ∙ sym (simp q)))
-
-pub returns-in-Pays : goal.returns-in-Pays
-returns-in-Pays c = let m = c.args.message.now in
-    let e = rw c.in-Pays.is at c.order_payment-answer.ensures in
+pub returns : goal.returns
+returns c =
+    let m = c.args.message.now in
+    let e = c.in_ok-payment.ensures in
     let d = order_facts m e in
-    let n = c.cut-in-Pays.ensures.0 ∙ ap note_in c.enclosed-inside.ensures.0 in
-    let g = c.cut-in-Pays-2.ensures.0 ∙ ap (λ (j : ℕ). cut m (j + 6) 64) c.enclosed-inside.ensures.1 in
-    shown m _ _ _ e (c.note_of-in-Pays.ensures ∙ ap note_held (n ∙ sym (simp d.accepted))) (c.signature_of-in-Pays.ensures ∙ ap (held 64) (g ∙ sym (simp d.accepted)))
+    let n = c.cut.ensures.0 ∙ ap note_in c.enclosed-inside.ensures.0 in
+    let g = c.cut-2.ensures.0 ∙ ap (λ (j : ℕ). cut m (j + 6) 64) c.enclosed-inside.ensures.1 in
+    shown m _ _ _ e (c.note_of.ensures ∙ ap note_held (n ∙ sym (simp d.accepted))) (c.held.ensures ∙ ap (held 64) (g ∙ sym (simp d.accepted)))

@@ -1,4 +1,4 @@
-use Rattle.std.proofs.Common.{◌≡◌, ℕ, false, eqb, List, length, eq-eqb, ne_eqb}
+use Rattle.std.proofs.Common.{◌≡◌, ℕ, false, ◌&&◌, eqb, List, length, sym, eq-eqb, ne_eqb}
 use Rattle.wire.specs.Refusals.{gives, payment_values}
 use Rattle.wire.specs.Readers.{read_payment}
 use Rattle.wire.specs.declared.kinds.Payment.{Payment}
@@ -7,26 +7,21 @@ use Rattle.messages.proofs.Told.{payment_told}
 use Rattle.records.specs.Records.{is_pending}
 use Rattle.records.proofs.record.pending_formed.Goals as goal
 
--- a pending body is this account's, for the next sequence
-module _ (account next : ℕ) (b : List ℕ) (p : Payment) (some : length b ≡ 0 → ⊥) (e : gives (payment_values p) ≡ read_payment b) where
-  another : (p.sender.0 ≡ account → ⊥) → false ≡ is_pending account next b
-  unfolding is_pending
-  another h = let t = payment_told p b e in simp (ne_eqb _ _ some, t.0, ← t.1, ne_eqb _ _ h)
-
-  own : p.sender.0 ≡ account → eqb p.sequence.0 next ≡ is_pending account next b
-  unfolding is_pending
-  own h = let t = payment_told p b e in simp (ne_eqb _ _ some, t.0, ← t.1, eq-eqb _ _ h)
-
-pub returns-then-pending-eq0 : goal.returns-then-pending-eq0
+-- of a body that is there and was read, its sender and its sequence decide
+decided : (account next : ℕ) (b : List ℕ) (p : Payment) → eqb (length b) 0 ≡ false → gives (payment_values p) ≡ read_payment b → (eqb p.sender.0 account && eqb p.sequence.0 next) ≡ is_pending account next b
 unfolding is_pending
-returns-then-pending-eq0 c = simp (eq-eqb _ _ c.if-pending-eq0.true)
+decided account next b p some e = let t = payment_told p b e in simp (some, t.0, ← t.1)
 
-pub returns-then-sender-account : goal.returns-then-sender-account
-returns-then-sender-account c = another c.args.account.0 c.args.next.0 c.args.pending.now _ c.if-pending-eq0.false c.in-Pays.ensures c.if-sender-account.true
-
-pub returns-in-Refused : goal.returns-in-Refused
+pub returns-then-is_empty : goal.returns-then-is_empty
 unfolding is_pending
-returns-in-Refused c = simp (ne_eqb _ _ c.if-pending-eq0.false, payment_refused c.args.pending.now _ c.in-Refused.ensures)
+returns-then-is_empty c = simp (← c.if-is_empty.ensures)
 
-pub returns-else-sender-account : goal.returns-else-sender-account
-returns-else-sender-account c = own c.args.account.0 c.args.next.0 c.args.pending.now _ c.if-pending-eq0.false c.in-Pays.ensures c.if-sender-account.false
+pub returns-in_default : goal.returns-in_default
+unfolding is_pending
+returns-in_default c = simp (← c.if-is_empty.ensures, payment_refused c.args.pending.now _ c.in_default.ensures)
+
+pub returns-then-payment-account : goal.returns-then-payment-account
+returns-then-payment-account c = rw (eq-eqb _ _ c.if-payment-account.true) at (decided c.args.account.0 c.args.next.0 c.args.pending.now _ (sym c.if-is_empty.ensures) c.in-Ok.ensures)
+
+pub returns-else-payment-account : goal.returns-else-payment-account
+returns-else-payment-account c = let h = ne_eqb _ _ c.if-payment-account.false in rw h (rw h at (decided c.args.account.0 c.args.next.0 c.args.pending.now _ (sym c.if-is_empty.ensures) c.in-Ok.ensures))

@@ -4,4 +4,4 @@ use Rattle.records.proofs.state.write_fresh.Goals as goal
 
 pub returns : goal.returns
 unfolding fresh_state
-returns c = own_put c.args.committee.faults c.args.own.0 4614 (rw c.requires.0 at c.write_fresh.ensures) c.put8.ensures
+returns c = own_put c.args.committee.faults c.args.own.0 4614 (rw c.told-s at c.write_fresh.ensures) c.put.ensures

@@ -1,13 +1,14 @@
-use mathlib.Core.Path.{sym, ◌∙◌}
-use native.Mathlib.Omega.{arith}
-use Rattle.text.proofs.WordLaws.{leading_more, leading_stop, leading_end}
+use Rattle.std.proofs.lemmas.Iterator.{YieldsList-from_slice}
+use Rattle.std.proofs.lemmas.Iterator.Search.{position_from_yields_List}
+use mathlib.Core.Bool.{not}
+use borrow.Author.Rules.{rules}
+use Rattle.text.specs.Words.{is_kind}
+use Rattle.text.proofs.WordLaws.{found, leading_found}
 use Rattle.text.proofs.words.leading.Goals as goal
 
-pub returns-then-not-is_kind : goal.returns-then-not-is_kind
-returns-then-not-is_kind c = (sym (c.loop-i.invariant.1 ∙ leading_stop _ _ _ c.loop-i-test.true (rw (← c.get8.ensures.0) (sym c.is_kind.ensures ∙ c.if-not-is_kind.true))), c.loop-i.invariant.0)
-
-pub loop-i-preserved : goal.loop-i-preserved
-loop-i-preserved c = (omega arith, c.loop-i.invariant.1 ∙ leading_more _ _ _ c.loop-i-test.true (rw (← c.get8.ensures.0) (sym c.is_kind.ensures ∙ c.if-not-is_kind.false)))
-
 pub returns : goal.returns
-returns c = (sym (c.loop-i.invariant.1 ∙ leading_end _ _ _ c.loop-i-test.false), c.loop-i.invariant.0)
+returns c =
+    let blank = c.args.blank in
+    let s = c.args.s.now in
+    let at = position_from_yields_List (λ b. not (is_kind blank b)) _ _ _ c.position.ensures.ran (YieldsList-from_slice s c.iter.ensures.rest) (λ x b q k. search rules) in
+    rw (← leading_found blank s) (found _ s at c.unwrap_or.ensures)

@@ -1,16 +1,12 @@
-use mathlib.Core.Path.{sym, ◌∙◌}
-use native.Mathlib.Omega.{arith}
-use Rattle.octets.specs.Octets.{number}
-use Rattle.text.proofs.WordLaws.{line_more, line_stop, line_over}
+use Rattle.std.proofs.lemmas.Iterator.{YieldsList-from_slice}
+use Rattle.std.proofs.lemmas.Iterator.Search.{position_from_yields_List}
+use lib.Dec.{eqb}
+use borrow.Author.Rules.{rules}
+use Rattle.text.proofs.WordLaws.{found, line_found}
 use Rattle.text.proofs.words.line_end.Goals as goal
 
-pub returns-then-s-i-eq10 : goal.returns-then-s-i-eq10
-unfolding number
-returns-then-s-i-eq10 c = (sym (c.loop-i.invariant.1 ∙ line_stop _ _ c.loop-i-test.true c.if-s-i-eq10.true), c.loop-i.invariant.0)
-
-pub loop-i-preserved : goal.loop-i-preserved
-unfolding number
-loop-i-preserved c = (omega arith, c.loop-i.invariant.1 ∙ line_more _ _ c.loop-i-test.true c.if-s-i-eq10.false)
-
 pub returns : goal.returns
-returns c = (sym (c.loop-i.invariant.1 ∙ line_over _ _ c.loop-i-test.false), c.loop-i.invariant.0)
+returns c =
+    let s = c.args.s.now in
+    let at = position_from_yields_List (λ b. eqb b 10) _ _ _ c.position.ensures.ran (YieldsList-from_slice s c.iter.ensures.rest) (λ x b q k. search rules) in
+    rw (← line_found s) (found _ s at c.unwrap_or.ensures)

@@ -1,32 +1,31 @@
 use native.Mathlib.Omega.{arith}
-use borrow.Author.Tests.{lt-ltb, le-ltb, le-leb, lt-leb}
 use Rattle.text.specs.Words.{nibble}
 use Rattle.text.proofs.words.nibble.Goals as goal
 
-pub returns-then-c-lt48 : goal.returns-then-c-lt48
+pub returns-in-48-to-57 : goal.returns-in-48-to-57
 unfolding nibble
-returns-then-c-lt48 c = (rw (lt-ltb _ _ c.if-c-lt48.true), omega arith)
+returns-in-48-to-57 c = grind arith
 
-pub returns-then-c-le57 : goal.returns-then-c-le57
+pub returns-in-65-to-70 : goal.returns-in-65-to-70
 unfolding nibble
-returns-then-c-le57 c = (simp (le-ltb _ _ c.if-c-lt48.false, le-leb _ _ c.if-c-le57.true), omega arith)
+returns-in-65-to-70 c = grind arith
 
-pub returns-then-c-lt65 : goal.returns-then-c-lt65
+pub returns-in-97-to-102 : goal.returns-in-97-to-102
 unfolding nibble
-returns-then-c-lt65 c = (simp (le-ltb _ _ c.if-c-lt48.false, lt-leb _ _ c.if-c-le57.false, lt-ltb _ _ c.if-c-lt65.true), omega arith)
+returns-in-97-to-102 c = grind arith
 
-pub returns-then-c-le70 : goal.returns-then-c-le70
+pub returns-in_default : goal.returns-in_default
 unfolding nibble
-returns-then-c-le70 c = (simp (le-ltb _ _ c.if-c-lt48.false, lt-leb _ _ c.if-c-le57.false, le-ltb _ _ c.if-c-lt65.false, le-leb _ _ c.if-c-le70.true), omega arith)
+returns-in_default c = grind arith
 
-pub returns-then-c-lt97 : goal.returns-then-c-lt97
+pub returns-in_default-2 : goal.returns-in_default-2
 unfolding nibble
-returns-then-c-lt97 c = (simp (le-ltb _ _ c.if-c-lt48.false, lt-leb _ _ c.if-c-le57.false, le-ltb _ _ c.if-c-lt65.false, lt-leb _ _ c.if-c-le70.false, lt-ltb _ _ c.if-c-lt97.true), omega arith)
+returns-in_default-2 c = grind arith
 
-pub returns-then-c-le102 : goal.returns-then-c-le102
+pub returns-in_default-3 : goal.returns-in_default-3
 unfolding nibble
-returns-then-c-le102 c = (simp (le-ltb _ _ c.if-c-lt48.false, lt-leb _ _ c.if-c-le57.false, le-ltb _ _ c.if-c-lt65.false, lt-leb _ _ c.if-c-le70.false, le-ltb _ _ c.if-c-lt97.false, le-leb _ _ c.if-c-le102.true), omega arith)
+returns-in_default-3 c = grind arith
 
-pub returns : goal.returns
+pub returns-in_default-4 : goal.returns-in_default-4
 unfolding nibble
-returns c = (simp (le-ltb _ _ c.if-c-lt48.false, lt-leb _ _ c.if-c-le57.false, le-ltb _ _ c.if-c-lt65.false, lt-leb _ _ c.if-c-le70.false, le-ltb _ _ c.if-c-lt97.false, lt-leb _ _ c.if-c-le102.false), omega arith)
+returns-in_default-4 c = grind arith

@@ -3,4 +3,4 @@ use Rattle.records.proofs.record.Record.holding.Goals as goal
 
 pub returns : goal.returns
 unfolding holding
-returns c = simp c.filled.ensures
+returns c = simp c.held.ensures

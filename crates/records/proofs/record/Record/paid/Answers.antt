@@ -3,4 +3,4 @@ use Rattle.records.proofs.record.Record.paid.Goals as goal
 
 pub returns : goal.returns
 unfolding paid fresh_record
-returns c = simp c.fresh-fresh.ensures
+returns c = simp c.fresh.ensures

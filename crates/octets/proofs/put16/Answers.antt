@@ -1,5 +1,0 @@
-use Rattle.octets.proofs.Laws.{put_halves}
-use Rattle.octets.proofs.put16.Goals as goal
-
-pub returns : goal.returns
-returns c = rw (put_halves 0) cc

@@ -1,0 +1,6 @@
+use Rattle.std.proofs.Common.{ℕ, List, Bor, sym, ◌∙◌}
+use Rattle.records.proofs.Facts.{opened}
+use Rattle.records.proofs.state.open.Goals as goal
+
+pub returns : goal.returns
+returns c = opened (λ (x : Bor (List ℕ)). x.now) _ _ (sym c.formed.ensures ∙ c.if-not-formed.false) c.as_array.ensures.cases

@@ -1,4 +1,0 @@
-use Rattle.text.proofs.page.+say_decimal.Given as goal
-
-abbrev pub decreases-say_decimal : goal.decreases-say_decimal
-decreases-say_decimal l = l.n

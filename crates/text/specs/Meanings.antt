@@ -1,0 +1,8 @@
+-- The bytes that a word means, where it means bytes.
+use Rattle.std.specs.Prelude.{◌≡◌, true, false, List, ℕ, Option, Some, None}
+use Rattle.text.specs.Words.{is_bytes, bytes_of}
+use Rattle.std.specs.Borrow.{Bor}
+
+abbrev pub Means : Option (Bor (List ℕ)) → List ℕ → Type 0
+Means (Some bytes) word = (is_bytes word ≡ true) × (bytes.now ≡ bytes_of word)
+Means None word = is_bytes word ≡ false

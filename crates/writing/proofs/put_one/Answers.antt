@@ -1,7 +1,0 @@
-use Rattle.octets.specs.Octets.{one}
-use Rattle.octets.proofs.Laws.{length_bytes}
-use Rattle.writing.proofs.Written.{put_value}
-use Rattle.writing.proofs.put_one.Goals as goal
-
-pub returns : goal.returns
-returns c = put_value _ _ _ _ c.put_head.ensures c.put8.ensures (length_bytes one _)
