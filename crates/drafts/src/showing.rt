@@ -24,6 +24,7 @@ fn show_certificate(f: u64, message: &[u8], page: &mut Page)
     }
     let size = octets::get::<TWO>(message, 1) as usize;
     let Ok(body) = body::read_body(octets::cut(message, 3, size)) else {
+        // The certificate was accepted, and so was its body.
         unreachable!()
     };
     let n = (message.len() - (size + 3)) / votes::VOTE_FIELD;

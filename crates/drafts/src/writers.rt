@@ -13,7 +13,7 @@ use wire::kinds::{Account, Funding, FundingIndex, Payment, Sequence};
 // The longest message.
 const MESSAGE: usize = 1148;
 
-// What a writer answers, and the bytes that it wrote into.
+// What a writer answers, and the bytes that it wrote into: there is no heap for as many as it answers.
 #[derive(Drop)]
 struct Draft {
     answer: Result<usize, Refusal>,

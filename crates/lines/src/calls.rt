@@ -8,8 +8,8 @@ use text::page::Page;
 use text::words;
 use wire::kinds::{Account, Sequence};
 
-// The calls that take a message and its verdicts. With a closure in its place `paper_line` had a clause over each state and page that the closure
-// meets, before and after, and still had to say which call that is.
+// The calls that take a message and its verdicts. With a closure in its place the contract of `paper_line` is about each state and page that the
+// closure meets, before and after it, and still has to say which call that is.
 #[derive(Drop)]
 pub enum Paper {
     Order,

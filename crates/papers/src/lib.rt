@@ -25,6 +25,7 @@ pub fn wrote(page: &mut Page, answer: Result<usize, Refusal>, bytes: &[u8])
     }
 }
 
+// The kind as `Payment` has it.
 #[tactic(auto, using(std::proofs::lemmas::Bool::Decides::nat_tests), unfolding(text::specs::Ascii::ascii))]
 fn pays(page: &mut Page, kind: u64)
     ensures { Says page.old page.new (cond (eqb kind 0) (ascii " pays account ") (ascii " pays ledger account ")) }
@@ -83,7 +84,7 @@ pub fn order(page: &mut Page, read: Result<Order, Refusal>)
     }
 }
 
-// The machines of n votes, the first at `place` and each 68 bytes behind the one before.
+// The machines of n votes, the first at `place` and each 68 bytes behind the one before. By place, as the definition `signers` has them.
 fn machines(page: &mut Page, message: &[u8], place: usize, n: usize)
     requires { place + 68 * n < length message.now + 68 }
     ensures { Says page.old page.new (papers.machines_named (signers message.now place 68 n)) }

@@ -34,7 +34,7 @@ impl Fault {
 }
 
 // A number, and the line that says what it means: there is one for each number from `first` on.
-// Arms of a match would each lend the page, and their proof costs a hundred times that of one text of lines.
+// Arms of a match would each lend the page, and what is proved would grow a hundredfold.
 fn say_refusal(page: &mut Page, number: u64, first: u64, reasons: &[u8])
     requires { first ≤ number }
     ensures { Says page.old page.new (refusals.refusal number (words.line_at (number - first) reasons.now)) }
@@ -44,6 +44,7 @@ fn say_refusal(page: &mut Page, number: u64, first: u64, reasons: &[u8])
     page.say(line_at(reasons, (number - first) as usize));
 }
 
+// One call, with the reasons of refusals.
 pub fn refused(page: &mut Page, refusal: Refusal)
     ensures { Says page.old page.new (refusals.refused_text (refusal_number refusal)) }
 {
@@ -74,6 +75,7 @@ pub fn refused(page: &mut Page, refusal: Refusal)
     );
 }
 
+// One call, with the reasons of faults.
 pub fn unread(page: &mut Page, fault: Fault)
     ensures { Says page.old page.new (refusals.fault_text fault) }
 {

@@ -16,7 +16,7 @@ pub struct Input<'a> {
     pub skips: bool,
 }
 
-// What is to be done with them.
+// What is to be done with them: the definition `next_of` names these steps.
 #[derive(Drop)]
 pub enum Next {
     Answer,

@@ -22,6 +22,7 @@ pub fn up_to(bytes: &[u8], n: usize) -> &[u8]
     octets::cut(bytes, 0, n)
 }
 
+// By `as`, here and in the crates above: from a u64 there is no `u8::from`, and with `u64::from` goals stay open.
 fn digit(d: u64) -> u8
     requires { d < 16 }
     ensures { result ≡ pages.digit d }

@@ -128,7 +128,7 @@ fn are_digits(word: &[u8]) -> bool
     word.iter().all(|c| nibble(*c).is_some())
 }
 
-// `same` is the definition's word, here and where an operator's words are told apart.
+// `same`, as in the definition.
 fn is_stroke(word: &[u8]) -> bool
     ensures { result ≡ words.is_stroke word.now }
 {
@@ -156,7 +156,7 @@ fn pair(high: u8, low: u8) -> u8
     nibble(high).unwrap() * 16 + nibble(low).unwrap()
 }
 
-// Puts the bytes that pairs of digits mean at the start of out, and answers how many there are.
+// Puts the bytes that pairs of digits mean at the start of out, since there is no heap, and answers how many there are.
 fn unhex(out: &mut [u8], word: &[u8]) -> usize
     requires { (words.are_digits word.now ≡ true) × (length word.now % 2 ≡ 0) × (length word.now ≤ 2 * length out.old) }
     ensures { (out.new ≡ put out.old 0 (words.unhexed word.now)) × (result ≡ length (words.unhexed word.now)) × (result ≤ length out.old) }
@@ -180,7 +180,7 @@ pub fn read_bytes(out: &mut [u8], word: &[u8]) -> usize
     unhex(out, word)
 }
 
-// Where the first line ends: the place of its line feed, or the length where there is none.
+// Where the first line ends: the place of its line feed, or the length where there is none, as in the definition.
 pub fn line_end(s: &[u8]) -> usize
     ensures { (result ≡ words.line_end s.now) × (result ≤ length s.now) }
 {
