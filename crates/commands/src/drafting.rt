@@ -3,6 +3,7 @@ use crate::arguments;
 use std::rt::Env;
 use text::page::{Page, up_to};
 
+// A word has room for the longest that the system takes: there is no heap.
 fn join_argument(rt: HostRuntime, i: usize, line: &mut Page) {
     let mut word = [0u8; 65536];
     match rt.arg(i, &mut word) {

@@ -42,6 +42,7 @@ pub fn cartlozenge_account(
 {
     match machine::read_account(state, Account(account)) {
         Ok(reading) => {
+            // Stored where a signed number is lent, it has to be a whole local.
             let signed = reading.balance;
             *values = [u64::from(reading.used), reading.next.0, reading.free];
             *balance = signed;

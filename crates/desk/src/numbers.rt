@@ -41,6 +41,7 @@ impl SideBySide for () {
     }
 }
 
+// The numbers are the layout's, and not the vote's own.
 impl SideBySide for Vote {
     ghost bits = { order_bits };
 

@@ -9,6 +9,7 @@ use messages::{body, certificate, covered, funding, order};
 use records::answers::StandingAnswer;
 use wire::answers::Certified;
 
+// A function for each of C's names.
 pub fn cartlozenge_read_body(message: &[u8], values: &mut [u64; 6]) -> u64
     ensures { left result values.new ≡ showing (noted (read_body message.now).answer (read_body message.now).note.length) values.old }
 {

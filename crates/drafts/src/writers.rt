@@ -56,6 +56,7 @@ fn funding(line: &Line) -> Funding
     }
 }
 
+// The writers take other words each, and so each counts and reads its own.
 #[tactic(auto, unfolding(crate::specs::Drafts::body_draft))]
 fn write_body(line: &Line) -> Result<Draft, Fault>
     ensures { drafts.drafted result ≡ drafts.body_draft line.now }

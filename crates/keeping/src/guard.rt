@@ -278,7 +278,7 @@ pub fn take(state: Place) -> Result<(), Told> {
     Err(state.complain(b"another program is just starting on it"))
 }
 
-// Whether the state is still ours.
+// Whether the state is still ours. The lock's name is made in a space of each function's own.
 pub(crate) fn is_ours(state: Place) -> bool {
     state.beside(b".lock", &mut [0u8; NAME]).is_own()
 }

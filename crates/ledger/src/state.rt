@@ -28,7 +28,7 @@ pub fn formed(s: &[u8]) -> bool
         && octets::zeros(octets::cut(s, 12, 4))
 }
 
-// The state in these bytes, if length and header are as they should be.
+// The state in these bytes, if length and header are as they should be: lent as they are, or to be written.
 pub(crate) fn open(s: &[u8]) -> Option<&[u8; LENGTH]>
     ensures { MatchOption result (ledger.is_state base s.now ≡ false) (λ state. (state.now ≡ s.now) × (ledger.is_state base state.now ≡ true)) }
 {

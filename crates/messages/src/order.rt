@@ -11,7 +11,7 @@ use wire::answers::{Order, Refusal};
 use wire::kinds::Payment;
 use wire::{kinds, layouts};
 
-// The body inside field 10 or 20, uncopied.
+// The body inside field 10 or 20, uncopied. By `as`: between a u64 and a usize there is no `From`.
 pub(crate) fn enclosed(message: &[u8]) -> &[u8]
     requires { 3 + size message.now 0 ≤ length message.now }
     ensures { (result.now ≡ inside message.now) × (length result.now ≡ size message.now 0) }

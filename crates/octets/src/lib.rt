@@ -12,7 +12,7 @@ pub fn cut(s: &[u8], at: usize, n: usize) -> &[u8]
     &s[at..at + n]
 }
 
-// The widths of a number: one, two, four or eight bytes.
+// The widths of a number: one, two, four or eight bytes. That there is no other is a clause of each function, since no const argument is computed.
 pub const ONE: usize = 0;
 
 pub const TWO: usize = 1;
@@ -28,7 +28,7 @@ fn size<const WIDTH: usize>() -> usize
     1 << WIDTH
 }
 
-// As copy_from_slice, which asks whether the two overlap: that test would stay in the machine code of every number.
+// As copy_from_slice, of whose two places the compiler does not know that they lie apart: its test would stay in the machine code of every number.
 fn refill(to: &mut [u8], from: &[u8])
     requires { length to.old ≡ length from.now }
     ensures { to.new ≡ from.now }
@@ -64,6 +64,7 @@ pub fn same(a: &[u8], b: &[u8]) -> bool
     a == b
 }
 
+// `votes::all_good` asks the same of 1.
 pub fn zeros(s: &[u8]) -> bool
     ensures { result ≡ octets.all_zero s.now }
 {

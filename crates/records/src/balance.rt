@@ -18,7 +18,7 @@ pub(crate) fn lower(lifted: u64) -> u64
     lifted.wrapping_sub(Record::NOUGHT)
 }
 
-// With its sign.
+// With its sign, by `as`: from a u64 there is no `i64::from`.
 pub fn signed(lifted: u64) -> i64
     requires { lifted ≤ balances.highest }
     ensures { result ≡ balances.signed lifted }

@@ -69,6 +69,7 @@ impl Record {
         }
     }
 
+    // By `as`, here and below: between a u64 and a usize there is no `From`. State and account are two arguments, as the definitions have them.
     // Where the record of an account stands. That there is one is a clause of five methods: a type that says it would be made anew at each of their
     // callers, which have the fact at hand.
     pub fn place(account: Account) -> usize

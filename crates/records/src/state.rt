@@ -21,7 +21,7 @@ pub fn formed(s: &[u8]) -> bool
         && octets::zeros(octets::cut(s, 4, 4))
 }
 
-// The state in these bytes, if length and header are as they should be.
+// The state in these bytes, if length and header are as they should be: lent as they are, or to be written. The ledger has the like, with its own test.
 pub fn open(s: &[u8]) -> Option<&[u8; LENGTH]>
     ensures { MatchOption result (is_state base s.now ≡ false) (λ state. (state.now ≡ s.now) × (is_state base s.now ≡ true)) }
 {

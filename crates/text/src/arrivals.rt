@@ -1,4 +1,5 @@
-// Bytes that arrive in pieces are held at the front of a buffer until a line is whole.
+// Bytes that arrive in pieces are held at the front of a buffer until a line is whole. Each clause says of the buffer that it is still the same one, as it
+// has to of a `&mut` in a struct.
 ghost use Rattle.std.specs.Prelude.{◌≡◌, true, false, length, take, drop};
 ghost use Rattle.octets.specs.Octets.{put};
 ghost use Rattle.text.specs.Arrivals as arrivals;
@@ -26,7 +27,7 @@ pub enum Next {
     Drop,
 }
 
-// Moves what stands from `from` up to `filled` to the front, and answers how many bytes that are.
+// Moves what stands from `from` up to `filled` to the front, since there is no heap, and answers how many bytes that are.
 fn move_front(s: &mut [u8], from: usize, filled: usize) -> usize
     ensures { (s.new ≡ put s.old 0 (drop from (take filled s.old))) × (result ≡ length (drop from (take filled s.old))) }
 {

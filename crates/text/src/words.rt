@@ -169,7 +169,7 @@ fn unhex(out: &mut [u8], word: &[u8]) -> usize
     n
 }
 
-// Puts the bytes that a word means at the start of out, and answers how many there are. The last two facts spare callers a proof.
+// Puts the bytes that a word means at the start of out, and answers how many there are: there is no heap. The last two facts spare callers a proof.
 pub fn read_bytes(out: &mut [u8], word: &[u8]) -> usize
     requires { (words.is_bytes word.now ≡ true) × (length word.now ≤ 2 * length out.old) }
     ensures { (out.new ≡ put out.old 0 (words.bytes_of word.now)) × (cut out.new 0 result ≡ words.bytes_of word.now) × (result ≤ length out.new) }

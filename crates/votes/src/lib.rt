@@ -85,7 +85,8 @@ pub fn all_good(verdicts: &[u8]) -> bool
     verdicts.iter().all(|verdict| *verdict == 1)
 }
 
-// Votes whose machine numbers stand at `place` and every `step` bytes after it.
+// Votes whose machine numbers stand at `place` and every `step` bytes after it. That the bytes reach so far is a clause, since it depends on how many
+// votes are asked for.
 #[derive(Clone, Copy)]
 pub struct Votes<'a> {
     pub bytes: &'a [u8],
@@ -97,7 +98,7 @@ impl<'a> Votes<'a> {
     ghost use Rattle.votes.specs.Reach.{Reaches, machines_of};
     ghost use Rattle.votes.specs.Tally.{AllSigned};
 
-    // The tally of the first n votes.
+    // The tally of the first n votes. That the last machine has a bit is a clause, as f is.
     fn tally(self, n: usize, last: u64) -> Tally
         requires { Reaches self n × (last < 16) }
         ensures { Tallied result last (machines_of self.entry n) }

@@ -1,4 +1,4 @@
-// What the readers answer, and why one answers nothing.
+// What the readers answer, and why a reader, a writer or a call refuses.
 ghost use Rattle.std.specs.Prelude.{◌≡◌};
 ghost use Rattle.wire.specs.Refusals.{refusal_number};
 
@@ -28,6 +28,7 @@ pub enum Refusal {
 }
 
 impl Refusal {
+    // By `as`: there is no `From` of a discriminant.
     pub fn number(self) -> u64
         ensures { result ≡ refusal_number self }
     {
@@ -42,7 +43,7 @@ pub struct Body {
     pub note: Note,
 }
 
-// What an order says: its body, and the sender's signature.
+// What an order says, and the sender's signature: the definition `order_shown` has them side by side too.
 #[derive(Clone, Copy)]
 pub struct Order {
     pub payment: Payment,

@@ -5,7 +5,7 @@ ghost use Rattle.wire.specs.Fields as fields;
 
 use octets::{ONE, TWO};
 
-// The length that the field at `at` says.
+// The length that the field at `at` says, by `as`: between a u64 and a usize there is no `From`.
 fn size_at(message: &[u8], at: usize) -> usize
     requires { at + 3 ≤ length message.now }
     ensures { (result ≡ fields.size message.now at) × (result < 2 ^ 16) }
@@ -59,7 +59,7 @@ impl<'a> Reader<'a> {
         })
     }
 
-    // The reader past all fields from its place on, each with this tag and a value of `size` bytes, up to the message's end.
+    // Field by field, as the definition has it: how far one goes is known once it is read. The reader past all fields from its place on, each with this tag and a value of `size` bytes, up to the message's end.
     pub fn fields(self, tag: u64, size: usize) -> Option<Reader<'a>>
         ensures { result ≡ fields.reached self.entry.message (fields.past_all (length self.entry.message.now) self.entry.message.now self.entry.at tag size size) }
     {

@@ -43,16 +43,26 @@ fn put_recipient(out: &mut [u8], at: usize, kind: u64, number: u64)
     octets::put::<TWO>(out, at + 4, number);
 }
 
+// As `octets::copy`, byte by byte: the library's copy is a call here, which takes eight bytes more of stack than the bound.
+fn put_bytes(out: &mut [u8], at: usize, part: &[u8])
+    requires { at + length part.now ≤ length out.old }
+    ensures { out.new ≡ octets.put out.old at part.now }
+{
+    for i in 0..part.len() {
+        out[at + i] = part[i];
+    }
+}
+
 // A field with bytes.
 fn put_part(out: &mut [u8], at: usize, tag: u64, part: &[u8])
     requires { (at + 3 + length part.now ≤ length out.old) × (tag < 256) × (length part.now < 65536) }
     ensures { out.new ≡ octets.put out.old at (field tag part.now) }
 {
     put_head(out, at, tag, part.len());
-    octets::copy(out, at + 3, part);
+    put_bytes(out, at + 3, part);
 }
 
-// In range, and no longer than a note is: `write_body` and `write_order` have both facts at hand.
+// A payment in range and a note of no more than 32 bytes: `write_body` and `write_order` have both facts at hand.
 fn put_body(out: &mut [u8], at: usize, payment: Payment, note: &[u8])
     requires { (at + 25 + length note.now ≤ length out.old) × (is_payment payment ≡ true) × (length note.now ≤ 32) }
     ensures { out.new ≡ octets.put out.old at (body_bytes payment note.now) }
