@@ -20,7 +20,7 @@ struct Draft {
     message: [u8; MESSAGE],
 }
 
-// A payment's kind, which is a number; any other word is a kind that there is not, and the writer refuses it.
+// A payment's kind, which is a number, as in the definition `kind_of`: any other word is a kind that there is not, and the writer refuses it.
 #[tactic(auto, using(text::proofs::Patterns::patterns), unfolding(crate::specs::Drafts::kind_of, text::specs::Ascii::ascii))]
 fn kind(word: &[u8]) -> u64
     ensures { result ≡ drafts.kind_of word.now }

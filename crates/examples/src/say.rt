@@ -1,4 +1,4 @@
-// Words, numbers and bytes on standard output. A refusal is its number, as in document 01.
+// Words, numbers and bytes on standard output. A refusal is its number, as in document 01. No `Display`: these words are those of the table alone.
 use records::answers::Reading;
 use std::fmt::Display;
 use wire::answers::Refusal;

@@ -65,6 +65,7 @@ impl<'a> Place<'a> {
         str::from_utf8(self.path).map_err(|_| Error::from_raw_os_error(NO_TEXT))
     }
 
+    // A function for each of the library's calls on a path.
     pub(crate) fn open(self) -> io::Result<File> {
         File::open(&self.rt, self.text()?)
     }
@@ -158,7 +159,7 @@ impl<'a> Place<'a> {
         folder.sync().map_err(|error| folder.fail(error))
     }
 
-    // What stands beside a path: that path and an ending.
+    // What stands beside a path: that path and an ending. Each kind of name is made of parts of its own.
     pub(crate) fn beside<'b>(self, ending: &[u8], space: &'b mut [u8]) -> Place<'b> {
         let mut name = Page::new(space);
         name.say(self.path);

@@ -132,6 +132,7 @@ impl Place<'_> {
                 Ok(true)
             }
             Err(error) if error.kind() == ErrorKind::AlreadyExists => Ok(self.is_own()),
+            // Told before it is handed on.
             Err(error) => Err(self.fail(error)),
         }
     }
@@ -259,6 +260,7 @@ impl Guard<'_> {
                 Ok(true)
             }
             Err(error) if error.kind() == ErrorKind::NotFound => Ok(false),
+            // Told, too.
             Err(error) => Err(self.lock.fail(error)),
         }
     }

@@ -35,7 +35,7 @@ pub fn make_fresh(s: &mut [u8], committee: Committee) -> Result<(), Refusal>
     Ok(())
 }
 
-// Writes the next funding order into the first 16 bytes of the output.
+// Writes the next funding order into the first 16 bytes of the output. State and account are two arguments, as the definition has them.
 pub fn fund(
     s: &mut [u8],
     out: &mut [u8],
@@ -82,6 +82,7 @@ fn pay(s: &mut [u8; state::LENGTH], payment: Payment) -> Result<Payout, Refusal>
     requires { is_payment payment ≡ true }
     ensures { outcome (redeem_said result) s.new ≡ calls.pay base s.old payment }
 {
+    // The kind is a number, as `Payment` has it.
     if payment.kind != 1 {
         return Err(Refusal::NotToLedger);
     }

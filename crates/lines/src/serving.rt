@@ -14,7 +14,7 @@ use text::arrivals::{Input, Next};
 use text::page::Page;
 use text::words;
 
-// Who answers. It goes beside the state: a struct that lent both would have each clause say that they are still the same two.
+// Who answers: the definition `reply_of` names the two. It goes beside the state, as a page and a line do in `calls`: a struct that lent both would have each clause say that they are still the same two.
 #[derive(Clone, Copy)]
 pub enum Role {
     Machine,

@@ -75,6 +75,7 @@ pub fn handle_funding(s: &mut [u8], message: &[u8], verdicts: &[u8]) -> Result<(
     credit(state, funding)
 }
 
+// State and account are two arguments, as the definition has them.
 #[tactic(auto, unfolding(records::specs::Calls::account))]
 pub fn read_account(s: &[u8], account: Account) -> Result<Reading, Refusal>
     ensures { account_shown result ≡ calls.account base s.now account.0 }

@@ -1,7 +1,7 @@
 -- How long the messages are, where the body inside an order or a certificate ends, and what stands behind it. Assumes nothing.
 use Prim.Native.Nat.{ℕ, ◌+◌, ◌-◌, ◌*◌, ◌/◌, ◌≤◌, ◌<◌}
-use mathlib.Core.Path.{◌≡◌, refl, ap}
-use mathlib.Core.Bool.{Bool, true, false, ◌||◌}
+use mathlib.Core.Path.{◌≡◌, ap}
+use mathlib.Core.Bool.{true, ◌||◌}
 use mathlib.Core.Logic.{inl, inr}
 use mathlib.Core.List.{List}
 use native.Mathlib.Omega.{arith}
@@ -13,29 +13,13 @@ use Rattle.octets.specs.Tests.{need}
 use Rattle.wire.specs.Fields.{size, laid}
 use Rattle.wire.specs.Messages.{body_fields, order_fields, certificate_fields, funding_fields, inside}
 use Rattle.wire.specs.Votes.{votes}
-use Rattle.wire.proofs.Laid.{body_laid, order_laid, certificate_laid, funding_laid, votes_length}
+use Rattle.wire.proofs.Laid.{body_laid, order_laid, certificate_laid, funding_laid, votes_length, found}
 
 pub body_least : (b : List ℕ) → laid b body_fields ≡ true → 25 ≤ length b
 body_least b h = (body_laid b h).least
 
 pub funding_length : (m : List ℕ) → laid m funding_fields ≡ true → length m ≡ 16
 funding_length m h = (funding_laid m h).sixteen
-
--- where an end was found the message was as laid down, and where none was found it was not
-module _ (test : Bool) (n : ℕ) where
-  pub found : {end : ℕ} → Some end ≡ need test None (Some n) → (test ≡ true) × (end ≡ n)
-  found e = go test e
-    where
-      go : {end : ℕ} (t : Bool) → Some end ≡ need t None (Some n) → (t ≡ true) × (end ≡ n)
-      go true e = (refl, cc)
-      go false e = absurd (cc)
-
-  pub missed : None ≡ need test None (Some n) → test ≡ false
-  missed e = go test e
-    where
-      go : (t : Bool) → None ≡ need t None (Some n) → t ≡ false
-      go true e = absurd (cc)
-      go false e = refl
 
 -- the body in the first field, which ends at `end`
 pub record Encloses (m : List ℕ) (end : ℕ) : Type 0 where
@@ -54,11 +38,11 @@ pub certificate_whole : (m : List ℕ) → laid m certificate_fields ≡ true �
 certificate_whole m h = omega (arith, (certificate_laid m h).body.whole)
 
 pub order_encloses : {end : ℕ} (m : List ℕ) → Some end ≡ need (laid m order_fields) None (Some (3 + size m 0)) → (laid m order_fields ≡ true) × Encloses m end
-order_encloses m e = let f = found _ _ e in (f.0, encloses m _ (order_whole m f.0) f.1)
+order_encloses m e = let f = found _ _ _ e in (f.0, encloses m _ (order_whole m f.0) f.1)
 
 pub either_encloses : {end : ℕ} (m : List ℕ) → Some end ≡ need (laid m order_fields || laid m certificate_fields) None (Some (3 + size m 0)) → ((laid m order_fields || laid m certificate_fields) ≡ true) × (end ≡ 3 + size m 0) × Encloses m end
 either_encloses m e =
-    let f = found _ _ e in
+    let f = found _ _ _ e in
     let whole : 3 + size m 0 ≤ length m = elim (or_cases _ _ f.0) [ inl h ↦ order_whole m h | inr h ↦ certificate_whole m h ] in
     (f.0, f.1, encloses m _ whole f.1)
 
@@ -71,7 +55,7 @@ pub record Opened (m : List ℕ) (end : ℕ) : Type 0 where
 
 pub opened : {end : ℕ} (m : List ℕ) → Some end ≡ need (laid m certificate_fields) None (Some (3 + size m 0)) → Opened m end
 opened m e =
-    let f = found _ _ e in
+    let f = found _ _ _ e in
     let at = number two m 1 + 3 in
     record {
       laid_down = f.0;

@@ -51,7 +51,7 @@ fn open_certificate(f: u64, message: &[u8]) -> Result<Opened<'_>, Refusal>
     })
 }
 
-// The certificate reader judges no verdicts.
+// The certificate reader judges no verdicts. f and the message are two arguments, as the definitions have them.
 pub fn read_certificate(f: u64, message: &[u8]) -> Result<Certified, Refusal>
     ensures { certificate_said result ≡ read_certificate f message.now }
 {

@@ -30,19 +30,21 @@ confirmed votes = confirmed_with (votes ∷ [])
 abbrev pub already : ℕ → Said
 already votes = already_with (votes ∷ [])
 
--- the answer on an order
+-- a vote: new 0, repeated 1
 abbrev pub vote_values : Vote → List ℕ
 vote_values Vote.New = 0 ∷ []
 vote_values Vote.Repeated = 1 ∷ []
 
+-- the answer on an order
 abbrev pub order_said : Result Vote Refusal → Said
 order_said = said vote_values
 
--- the answer on a certificate
+-- confirmed 0, already 1, with the number of votes counted
 abbrev pub confirmation_values : Confirmation → List ℕ
 confirmation_values (Confirmation.Confirmed votes) = 0 ∷ votes ∷ []
 confirmation_values (Confirmation.Already votes) = 1 ∷ votes ∷ []
 
+-- the answer on a certificate
 abbrev pub confirm_said : Result Confirmation Refusal → Said
 confirm_said = said confirmation_values
 

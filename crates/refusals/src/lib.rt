@@ -1,4 +1,4 @@
-// Refusals in words, with their numbers.
+// Refusals in words, with their numbers, printed as in `wording`.
 #![tactic(auto)]
 
 ghost use Rattle.std.specs.Prelude.{◌≡◌, ◌≤◌, ◌-◌};

@@ -17,7 +17,7 @@ use states::header;
 use wire::answers::Refusal;
 use wire::kinds::{Account, Payment};
 
-// Whether a payment goes from an account to itself.
+// Whether a payment goes from an account to itself. The kind is a number, as `Payment` has it.
 fn to_itself(payment: Payment) -> bool
     ensures { result ≡ calls.to_itself payment }
 {

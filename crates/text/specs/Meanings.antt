@@ -3,6 +3,7 @@ use Rattle.std.specs.Prelude.{◌≡◌, true, false, List, ℕ, Option, Some, N
 use Rattle.text.specs.Words.{is_bytes, bytes_of}
 use Rattle.std.specs.Borrow.{Bor}
 
+-- the very bytes, and none only where it means none
 abbrev pub Means : Option (Bor (List ℕ)) → List ℕ → Type 0
 Means (Some bytes) word = (is_bytes word ≡ true) × (bytes.now ≡ bytes_of word)
 Means None word = is_bytes word ≡ false

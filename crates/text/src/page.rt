@@ -1,4 +1,4 @@
-// Text is written on a page, behind what stands there. What does not fit is left out.
+// Text is written on a page, behind what stands there. What does not fit is left out: that is promised byte for byte, and so there is no `Display`.
 ghost use Rattle.std.specs.Prelude.{◌≡◌, ◌<◌, [], ◌∷◌, ◌++◌, take};
 ghost use Rattle.text.specs.Pages as pages;
 ghost use Rattle.text.specs.Pages.{Says};

@@ -83,7 +83,8 @@ pub fn has_words(line: &[u8], n: usize) -> bool
     word(line, n).is_empty()
 }
 
-// A word of decimal digits as a number. It has no more than eighteen of them, leading zeros apart.
+// A word of decimal digits as a number. It has no more than eighteen of them, leading zeros apart. By hand and not by `parse`, as hexadecimal digits
+// below: what a word means is promised.
 pub fn decimal(word: &[u8]) -> Option<u64>
     ensures { result ≡ words.decimal_of word.now }
 {

@@ -16,8 +16,8 @@ use records::state;
 use wire::answers::Refusal;
 use wire::kinds::Payment;
 
-// An order with a good verdict: a vote for its body, or a refusal. That the payment is in range is a clause: a type that says it would be made here
-// and opened at once.
+// An order with a good verdict: a vote for its body, or a refusal. That the payment is in range and how long a body can be are clauses: types that
+// say them would be made here and opened at once.
 #[tactic(auto, using(wire::proofs::Ranges::payment_range, records::proofs::Facts::formed_fits, records::proofs::Facts::fits_holding), unfolding(records::specs::Calls::vote, records::specs::Calls::vote_on))]
 fn vote(s: &mut [u8; state::LENGTH], payment: Payment, body: &[u8]) -> Result<Vote, Refusal>
     requires { (is_payment payment ≡ true) × (length body.now ≤ 57) }

@@ -43,11 +43,11 @@ whole_laid {m} {fields} {r} k =
     ap (λ (s : Bor (List ℕ)). is_message (length s.now) && eqb r.at (length s.now)) k.message ∙ ap (λ (n : ℕ). is_message (length m.now) && eqb n (length m.now)) (sym k.left)
 
 -- where a test gives a place it held, and where it gives none it failed
-found : (t : Bool) (n end : ℕ) → Some end ≡ need t None (Some n) → (t ≡ true) × (end ≡ n)
+pub found : (t : Bool) (n end : ℕ) → Some end ≡ need t None (Some n) → (t ≡ true) × (end ≡ n)
 found true n end e = (refl, cc)
 found false n end e = absurd cc
 
-missed : (t : Bool) (n : ℕ) → None ≡ need t None (Some n) → t ≡ false
+pub missed : (t : Bool) (n : ℕ) → None ≡ need t None (Some n) → t ≡ false
 missed true n e = absurd cc
 missed false n e = refl
 

@@ -28,7 +28,7 @@ pub enum Refusal {
 }
 
 impl Refusal {
-    // By `as`: there is no `From` of a discriminant.
+    // By `as`, here and in `refusals`: there is no `From` of a discriminant.
     pub fn number(self) -> u64
         ensures { result ≡ refusal_number self }
     {

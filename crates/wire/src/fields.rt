@@ -5,7 +5,7 @@ ghost use Rattle.wire.specs.Fields as fields;
 
 use octets::{ONE, TWO};
 
-// The length that the field at `at` says, by `as`: between a u64 and a usize there is no `From`.
+// The length that the field at `at` says, by `as`, here and in the crates above: between a u64 and a usize there is no `From`.
 fn size_at(message: &[u8], at: usize) -> usize
     requires { at + 3 ≤ length message.now }
     ensures { (result ≡ fields.size message.now at) × (result < 2 ^ 16) }

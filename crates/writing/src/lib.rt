@@ -33,7 +33,7 @@ fn put_number<const WIDTH: usize>(out: &mut [u8], at: usize, tag: u64, v: u64)
     octets::put::<WIDTH>(out, at + 3, v);
 }
 
-// A field with a kind and a number of two bytes.
+// A field with a kind, a number as `Payment` has it, and a number of two bytes.
 fn put_recipient(out: &mut [u8], at: usize, kind: u64, number: u64)
     requires { (at + 6 ≤ length out.old) × (kind < 256) × (number < 65536) }
     ensures { out.new ≡ octets.put out.old at (field 0x02 (octets.bytes octets.one kind ++ octets.bytes octets.two number)) }
@@ -168,7 +168,7 @@ pub fn write_certificate(f: u64, out: &mut [u8], body: &[u8], run: &[u8]) -> Res
     write_voted(f, out, body, run)
 }
 
-// The rest of the certificate writer, for a body in order and a run of whole votes. Both are clauses: types that say them would be made once, here.
+// The rest of the certificate writer, for an f in range, a body in order and a run of whole votes. All three are clauses: types that say them would be made once, here.
 fn write_voted(f: u64, out: &mut [u8], body: &[u8], run: &[u8]) -> Result<usize, Refusal>
     requires { (f ≤ 5) × (length body.now ≤ 57) × (length run.now % 65 ≡ 0) }
     ensures { written result out.new ≡ write_voted f out.old body.now run.now }

@@ -1,7 +1,8 @@
 use native.Mathlib.Omega.{arith}
 use borrow.Author.Tests.{le-leb, lt-leb}
 use mathlib.Core.Path.{◌∙◌}
-use Rattle.messages.proofs.Places.{missed, opened}
+use Rattle.wire.proofs.Laid.{missed}
+use Rattle.messages.proofs.Places.{opened}
 use Rattle.messages.proofs.certificate.open_certificate.Goals as goal
 
 pub returns-then-f-gt5 : goal.returns-then-f-gt5

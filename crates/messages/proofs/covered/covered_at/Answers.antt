@@ -5,7 +5,8 @@ use Rattle.wire.specs.Fields.{size}
 use Rattle.std.proofs.lemmas.Bool.{and_parts}
 use Rattle.wire.specs.Readers.{is_body, covered_at}
 use Rattle.wire.proofs.Laid.{body_laid}
-use Rattle.messages.proofs.Places.{missed, either_encloses}
+use Rattle.wire.proofs.Laid.{missed}
+use Rattle.messages.proofs.Places.{either_encloses}
 use Rattle.messages.proofs.covered.covered_at.Goals as goal
 
 pub returns-in_default : goal.returns-in_default
