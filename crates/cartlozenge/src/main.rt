@@ -41,7 +41,10 @@ fn start(rt: HostRuntime) -> Result<(), Told> {
             drafting::draft(rt);
             Ok(())
         }
-        b"fresh" => fresh::make(rt),
+        b"fresh" => {
+            fresh::make(rt);
+            Ok(())
+        }
         command => serve_named(rt, command),
     }
 }

@@ -1,5 +1,5 @@
 // Lines are read as they arrive, and answered.
-ghost use Rattle.std.specs.Prelude.{◌≡◌};
+ghost use Rattle.std.specs.Prelude.{◌≡◌, length};
 ghost use Rattle.text.specs.Pages.{page};
 ghost use Rattle.text.specs.Arrivals.{waiting, Grows};
 ghost use Rattle.lines.specs.Calls.{desk};
@@ -18,13 +18,14 @@ use text::page::Page;
 fn finish(rt: HostRuntime, input: &Input) {
     let mut space = [0u8; serving::LONGEST];
     let mut page = Page::new(&mut space);
-    serving::finish(input, &mut page);
+    serving::finish(input.buffer, input.held(), &mut page);
     let _ = rt.write_all(page.text());
 }
 
 // Answers whether there is another turn.
 fn read_more(rt: HostRuntime, input: &mut Input) -> Result<bool, Told>
     ensures same_reference { input.new.buffer.ghost_name ≡ input.old.buffer.ghost_name }
+    ensures room { length input.new.buffer.now ≡ length input.old.buffer.now }
     ensures grows { Grows (waiting input.old) (waiting input.new) }
 {
     let is_open = input::read_more(rt, input)?;
@@ -46,6 +47,7 @@ fn go_on(
     out: &mut [u8],
 ) -> Result<bool, Told>
     ensures same_reference { input.new.buffer.ghost_name ≡ input.old.buffer.ghost_name }
+    ensures room { length input.new.buffer.now ≡ length input.old.buffer.now }
     ensures turned { (state.new ≡ (turned role (desk state.old (page out.old 0)) (waiting input.old)).desk.state) × Grows (turned role (desk state.old (page out.old 0)) (waiting input.old)).left (waiting input.new) }
 {
     let mut answers = Page::new(out);

@@ -23,6 +23,8 @@ fn join_arguments(rt: HostRuntime, line: &mut Page) {
     }
 }
 
+// Not inlined: its two pages would stand on the stack of every other command too.
+#[inline(never)]
 pub fn draft(rt: HostRuntime) {
     let mut words = [0u8; 65536];
     let mut line = Page::new(&mut words);

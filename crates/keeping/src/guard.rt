@@ -4,8 +4,8 @@ use crate::complaints::{Told, tell};
 use crate::files::{DIGITS, NAME, Place, own_digits, text_of};
 use std::io::{ErrorKind, Write};
 use std::rt::Clock;
-use std::thread;
 use std::time::Duration;
+use std::{io, thread};
 use text::page::Page;
 use text::words;
 
@@ -218,17 +218,42 @@ impl Guard<'_> {
         self.check_kept()
     }
 
-    // Takes over from the process that left a mark, if that runs no more. `seen` is what the lock itself says. Where the claim of
-    // another heir is in the way, that one's heir goes on, if it was killed before it had the lock.
-    fn inherit(self, seen: &[u8], mark: &[u8], depth: u64) -> Result<(), Told> {
+    // Takes over from the process that left a mark, if that runs no more and nobody else is its heir, and answers whether it did. The name of
+    // an heir's file is made in functions that are not inlined: else it would stand on the stack at each depth.
+    #[inline(never)]
+    fn claim_after(self, seen: &[u8], mark: &[u8], depth: u64) -> Result<bool, Told> {
         if is_held(self.state.rt, mark) {
             return Err(self.refuse(mark));
         }
         clear(self.state, words::word(mark, 0));
         let mut space = [0u8; NAME];
         let heir = self.heir(depth, &mut space);
-        if heir.claim()? {
-            return self.succeed(seen, heir);
+        if !heir.claim()? {
+            return Ok(false);
+        }
+        self.succeed(seen, heir)?;
+        Ok(true)
+    }
+
+    // What an heir's claim says.
+    #[inline(never)]
+    fn heir_mark<'b>(self, depth: u64, text: &'b mut [u8]) -> io::Result<&'b [u8]> {
+        let mut space = [0u8; NAME];
+        let heir = self.heir(depth, &mut space);
+        heir.await_text();
+        heir.read(text)
+    }
+
+    #[inline(never)]
+    fn drop_heir(self, depth: u64) {
+        self.heir(depth, &mut [0u8; NAME]).remove();
+    }
+
+    // Takes over from the process that left a mark. `seen` is what the lock itself says. Where the claim of another heir is in the way, that
+    // one's heir goes on, if it was killed before it had the lock.
+    fn inherit(self, seen: &[u8], mark: &[u8], depth: u64) -> Result<(), Told> {
+        if self.claim_after(seen, mark, depth)? {
+            return Ok(());
         }
         if depth >= 8 {
             return Err(
@@ -237,13 +262,12 @@ impl Guard<'_> {
                 ),
             );
         }
-        heir.await_text();
         let mut text = [0u8; MARK];
-        let Ok(next) = heir.read(&mut text) else {
+        let Ok(next) = self.heir_mark(depth, &mut text) else {
             return Err(self.lose_race());
         };
         self.inherit(seen, next, depth + 1)?;
-        heir.remove();
+        self.drop_heir(depth);
         Ok(())
     }
 

@@ -38,6 +38,7 @@ fn read_behind(rt: HostRuntime, buffer: &mut [u8], filled: usize) -> io::Result<
 // lines, and holds less than one when it reads.
 pub fn read_more(rt: HostRuntime, input: &mut Input) -> Result<bool, Told>
     ensures same_reference { input.new.buffer.ghost_name ≡ input.old.buffer.ghost_name }
+    ensures room { length input.new.buffer.now ≡ length input.old.buffer.now }
     ensures grows { Grows (waiting input.old) (waiting input.new) }
 {
     if input.filled >= input.buffer.len() {

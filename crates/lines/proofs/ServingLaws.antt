@@ -2,7 +2,7 @@
 use Prim.Native.Nat.{ℕ, zero, suc, ◌+◌, ◌-◌, ◌≤◌, ◌<◌}
 use mathlib.Core.Path.{◌≡◌, refl, sym, ap, ◌∙◌}
 use mathlib.Core.Bool.{true, false}
-use mathlib.Core.List.{List}
+use mathlib.Core.List.{List, ◌++◌}
 use native.Mathlib.Omega.{arith}
 use lib.ListN.{length, take, drop, length-drop}
 use borrow.Author.Tests.{lt-ltb, le-ltb}
@@ -11,7 +11,7 @@ use Rattle.text.specs.Ascii.{ascii}
 use Rattle.text.specs.Pages.{Page, said}
 use Rattle.text.specs.Words.{line_end}
 use Rattle.text.specs.Arrivals.{Arrived, next_of, released}
-use Rattle.text.proofs.PageLaws.{says_then}
+use Rattle.text.proofs.PageLaws.{says_then, said_room}
 use Rattle.text.proofs.WordLaws.{cut_rest}
 use Rattle.lines.specs.Calls.{Desk, desk}
 use Rattle.lines.specs.Serving.{reply_of, answered, has_room, Served, at_desk, next_line, served_from, served, Turn, turn, answered_turn, turn_of, turned}
@@ -23,6 +23,11 @@ pub reply_ends : {A : Type 0} {i j k : A} {t : List ℕ} {q r : Page} (role : Ro
     → (t ≡ (reply_of role s line).state) × ((j ≡ i) × (q ≡ said p (reply_of role s line).text)) → (k ≡ j) × (r ≡ said q (ascii "\n")) → (k ≡ i) × (desk t r ≡ answered role (desk s p) line)
 unfolding answered
 reply_ends role s line p e f = let whole = says_then _ _ _ e.1 f in (whole.0, λ i. desk (e.0 i) (whole.1 i))
+
+-- no answer makes the page longer or shorter
+pub answered_room : {e : Desk} {n : ℕ} (role : Role) (d : Desk) (line : List ℕ) → e ≡ answered role d line → length d.page.bytes ≡ n → length e.page.bytes ≡ n
+unfolding answered
+answered_room role d line e h = ap (λ (d : Desk). length d.page.bytes) e ∙ said_room d.page ((reply_of role d.state line).text ++ ascii "\n") ∙ h
 
 -- nothing more is served where there is no room or no whole line, whatever bounds the number of lines
 served_stops : (n : ℕ) (role : Role) (input : List ℕ) (from : ℕ) (d : Desk) → has_room d.page ≡ false → served_from n role input from d ≡ at_desk from d

@@ -39,15 +39,25 @@ fn paper_line(state: &mut [u8], paper: Paper, line: &Line, page: &mut Page)
     if !line.has_words(3) {
         return unread(page, Fault::WordCount);
     }
-    let mut first = [0; words::BYTES];
-    let Some(message) = line.bytes(1, &mut first) else {
+    let Some(first) = line.digits(1) else {
         return unread(page, Fault::NotHexadecimal);
     };
-    let mut second = [0; words::BYTES];
-    let Some(verdicts) = line.bytes(2, &mut second) else {
+    let Some(second) = line.digits(2) else {
         return unread(page, Fault::NotHexadecimal);
     };
-    handle(state, paper, message, verdicts, page);
+    // Both are looked at before either is read, as in the definition: by `Line::bytes`, one after the other, a line that is refused for its last word
+    // takes half as long again.
+    let mut message = [0; words::BYTES];
+    let m = words::read_bytes(&mut message, first);
+    let mut verdicts = [0; words::BYTES];
+    let v = words::read_bytes(&mut verdicts, second);
+    handle(
+        state,
+        paper,
+        octets::cut(&message, 0, m),
+        octets::cut(&verdicts, 0, v),
+        page,
+    );
 }
 
 #[tactic(auto, unfolding(crate::specs::Calls::account_line))]
@@ -68,10 +78,12 @@ fn standing_line(state: &[u8], line: &Line, page: &mut Page)
     if !line.has_words(2) {
         return unread(page, Fault::WordCount);
     }
-    let mut space = [0; words::BYTES];
-    let Some(message) = line.bytes(1, &mut space) else {
+    let Some(digits) = line.digits(1) else {
         return unread(page, Fault::NotHexadecimal);
     };
+    let mut space = [0; words::BYTES];
+    let n = words::read_bytes(&mut space, digits);
+    let message = octets::cut(&space, 0, n);
     wording::standing(page, machine::standing_body(message, state));
 }
 

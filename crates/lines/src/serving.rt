@@ -2,7 +2,7 @@
 ghost use Rattle.std.specs.Prelude.{◌≡◌, ◌≤◌, length, ◌++◌};
 ghost use Rattle.text.specs.Ascii.{ascii};
 ghost use Rattle.text.specs.Pages.{Says};
-ghost use Rattle.text.specs.Arrivals.{waiting};
+ghost use Rattle.text.specs.Arrivals.{waiting, held_in};
 ghost use Rattle.refusals.specs.Refusals.{fault_text};
 ghost use Rattle.lines.specs.Calls.{lent, desk, Replies};
 ghost use Rattle.lines.specs.Serving as serving;
@@ -10,8 +10,8 @@ ghost use Rattle.lines.specs.Serving.{OnDesk};
 
 use crate::calls;
 use refusals::{Fault, unread};
-use text::arrivals::{Input, Next};
-use text::page::Page;
+use text::arrivals::{Held, Input, Next};
+use text::page::{Page, up_to};
 use text::words;
 
 // Who answers: the definition `reply_of` names the two. It goes beside the state, as a page and a line do in `calls`: a struct that lent both would have each clause say that they are still the same two.
@@ -48,7 +48,8 @@ fn has_room(page: &Page) -> bool
 
 // Answers the lines of the input as long as there is a whole one, and room on the page; and answers how much of the input it took.
 pub fn serve(role: Role, state: &mut [u8], input: &[u8], page: &mut Page) -> usize
-    ensures { (page.new.bytes.ghost_name ≡ page.old.bytes.ghost_name) × (serving.at_desk result (desk state.new (lent page.new)) ≡ serving.served role input.now (desk state.old (lent page.old))) × (result ≤ length input.now) }
+    ensures served { (page.new.bytes.ghost_name ≡ page.old.bytes.ghost_name) × (serving.at_desk result (desk state.new (lent page.new)) ≡ serving.served role input.now (desk state.old (lent page.old))) × (result ≤ length input.now) }
+    ensures room { length page.new.bytes.now ≡ length page.old.bytes.now }
 {
     // A `while`: how far a line goes is known once it was looked at.
     let mut from = 0;
@@ -74,7 +75,8 @@ fn refuse(page: &mut Page, fault: Fault)
 
 // What is done with the bytes that have arrived, and whether more have to arrive before the next turn.
 pub fn take_turn(role: Role, state: &mut [u8], input: &mut Input, page: &mut Page) -> bool
-    ensures { (input.new.buffer.ghost_name ≡ input.old.buffer.ghost_name) × (page.new.bytes.ghost_name ≡ page.old.bytes.ghost_name) × (serving.turn (desk state.new (lent page.new)) (waiting input.new) result ≡ serving.turned role (desk state.old (lent page.old)) (waiting input.old)) }
+    ensures turned { (input.new.buffer.ghost_name ≡ input.old.buffer.ghost_name) × (page.new.bytes.ghost_name ≡ page.old.bytes.ghost_name) × (serving.turn (desk state.new (lent page.new)) (waiting input.new) result ≡ serving.turned role (desk state.old (lent page.old)) (waiting input.old)) }
+    ensures room { (length input.new.buffer.now ≡ length input.old.buffer.now) × (length page.new.bytes.now ≡ length page.old.bytes.now) }
 {
     match input.next_step() {
         Next::Answer => {
@@ -100,13 +102,13 @@ pub fn take_turn(role: Role, state: &mut [u8], input: &mut Input, page: &mut Pag
 }
 
 // The input has ended. What is held then is a line without an end, which may be half of another.
-pub fn finish(input: &Input, page: &mut Page)
-    ensures { Says page.old page.new (serving.last_text (waiting input.now)) }
+pub fn finish(buffer: &[u8], held: Held, page: &mut Page)
+    ensures { Says page.old page.new (serving.last_text (held_in buffer.now held)) }
 {
-    if input.skips {
+    if held.skips {
         return;
     }
-    if input.bytes().is_empty() {
+    if up_to(buffer, held.filled).is_empty() {
         return;
     }
     refuse(page, Fault::NoEnd);

@@ -8,7 +8,7 @@ ghost use Rattle.wire.specs.Readers.{read_payment, note_held, body_shown, read_b
 use octets::{FOUR, ONE, TWO};
 use wire::answers::{Body, Refusal};
 use wire::kinds::{Account, Note, Payment, Sequence};
-use wire::{kinds, layouts};
+use wire::layouts;
 
 // The values of a body that has its fields: they stand at fixed places.
 #[tactic(auto, using(crate::proofs::Places::body_least), unfolding(wire::specs::Messages::payment))]
@@ -47,7 +47,7 @@ pub(crate) fn note_of(part: &[u8]) -> Note
 {
     Note {
         length: part.len(),
-        bytes: kinds::held::<32>(part),
+        bytes: octets::held::<32>(part),
     }
 }
 

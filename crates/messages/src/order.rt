@@ -9,7 +9,7 @@ use crate::body;
 use octets::TWO;
 use wire::answers::{Order, Refusal};
 use wire::kinds::Payment;
-use wire::{kinds, layouts};
+use wire::layouts;
 
 // The body inside field 10 or 20, uncopied. By `as`: between a u64 and a usize there is no `From`.
 pub(crate) fn enclosed(message: &[u8]) -> &[u8]
@@ -38,6 +38,6 @@ pub fn read_order(message: &[u8]) -> Result<Order, Refusal>
     Ok(Order {
         payment,
         note: body::note_of(octets::cut(inside, 25, size - 25)),
-        signature: kinds::held::<64>(octets::cut(message, size + 6, 64)),
+        signature: octets::held::<64>(octets::cut(message, size + 6, 64)),
     })
 }

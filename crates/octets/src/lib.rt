@@ -86,3 +86,13 @@ pub fn clear(s: &mut [u8], at: usize, n: usize)
 {
     s[at..at + n].fill(0);
 }
+
+// A part's bytes at the front of an array, zeros behind them.
+pub fn held<const N: usize>(part: &[u8]) -> [u8; N]
+    requires { length part.now ≤ N }
+    ensures { result ≡ octets.put (replicate N 0) 0 part.now }
+{
+    let mut bytes = [0; N];
+    copy(&mut bytes, 0, part);
+    bytes
+}

@@ -7,7 +7,7 @@ ghost use Rattle.records.specs.States.{base, place, record_of, is_formed, pendin
 use crate::{balance, state};
 use messages::body;
 use octets::{EIGHT, ONE, TWO};
-use wire::kinds::{Account, Sequence, held};
+use wire::kinds::{Account, Sequence};
 
 // The balance is lifted; `waiting` is the length of the pending body, 0 if there is none. It stands beside an array that has room for each body: there
 // is no heap.
@@ -111,7 +111,7 @@ impl Record {
             waiting: octets::get::<ONE>(s, at + 1) as usize,
             next: Sequence(octets::get::<TWO>(s, at + 2)),
             balance: balance::lift(octets::get::<EIGHT>(s, at + 4)),
-            pending: held(octets::cut(s, at + Record::HEAD, 57)),
+            pending: octets::held(octets::cut(s, at + Record::HEAD, 57)),
         }
     }
 
@@ -145,7 +145,7 @@ impl Record {
     {
         Record {
             waiting: body.len(),
-            pending: held(body),
+            pending: octets::held(body),
             ..self
         }
     }

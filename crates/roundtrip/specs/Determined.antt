@@ -1,13 +1,15 @@
 -- Document 01, How tight the promises are: two outcomes that a contract of wire, messages or writing allows are equal. Each theorem has the name of its
 -- function and takes two results that meet the function's contract. Assumes nothing.
-use Rattle.std.specs.Prelude.{ℕ, zero, suc, ◌+◌, ◌≡◌, refl, Bool, List, [], ◌∷◌, get_or, drop, Option, Some, None, Result, Ok, Err}
+use Rattle.std.specs.Prelude.{ℕ, zero, suc, ◌+◌, ◌≡◌, refl, Bool, List, [], ◌∷◌, length, get_or, drop, Option, Some, None, Result, Ok, Err}
+use Rattle.std.specs.Borrow.{Bor}
 use Rattle.std.proofs.Common.{sym, ap, ◌∙◌, arith}
 use Rattle.octets.specs.Tests.{need}
-use Rattle.wire.specs.Fields.{Want, size, laid}
-use Rattle.wire.specs.Messages.{body_fields, order_fields, certificate_fields, funding_fields}
+use Rattle.wire.specs.Fields.{Want, size, past, past_all, laid, reader_at, reached}
+use Rattle.wire.specs.Messages.{body_fields, order_fields, certificate_fields, funding_fields, payment, inside}
 use Rattle.wire.specs.Refusals.{Said, refusal_number, said, body_said, funding_said, certificate_said, write_said}
 use Rattle.wire.specs.Readers as readers
 use Rattle.wire.specs.Writers.{Written, written, write_body, write_order, write_funding, write_certificate}
+use Rattle.wire.specs.declared.fields.Reader.{Reader}
 use Rattle.wire.specs.declared.kinds.Payment.{Payment}
 use Rattle.wire.specs.declared.kinds.Funding.{Funding}
 use Rattle.wire.specs.declared.answers.Refusal.{Refusal}
@@ -104,6 +106,21 @@ determined injective r s p q = injective r s (p ∙ sym q)
 -- the same where the outcome itself is given
 equal : {A : Type 0} {x : A} (r s : A) → r ≡ x → s ≡ x → r ≡ s
 equal r s p q = p ∙ sym q
+
+pub new : (message : Bor (List ℕ)) (r s : Reader) → r ≡ reader_at message 0 → s ≡ reader_at message 0 → r ≡ s
+new message = equal
+
+pub field : (from : Reader) (tag least most : ℕ) (r s : Option Reader) → r ≡ reached from.message (past from.message.now from.at tag least most)
+    → s ≡ reached from.message (past from.message.now from.at tag least most) → r ≡ s
+field from tag least most = equal
+
+pub fields : (from : Reader) (tag size : ℕ) (r s : Option Reader)
+    → r ≡ reached from.message (past_all (length from.message.now) from.message.now from.at tag size size)
+    → s ≡ reached from.message (past_all (length from.message.now) from.message.now from.at tag size size) → r ≡ s
+fields from tag size = equal
+
+pub payment_lem : (message : List ℕ) (r s : Payment) → r ≡ payment (inside message) → s ≡ payment (inside message) → r ≡ s
+payment_lem message = equal
 
 pub body_laid : (body : List ℕ) (r s : Bool) → r ≡ laid body body_fields → s ≡ laid body body_fields → r ≡ s
 body_laid body = equal

@@ -12,7 +12,8 @@ use Rattle.std.proofs.lemmas.List.Edits.{sets-eq}
 use Rattle.octets.specs.Octets.{put}
 use Rattle.octets.proofs.Laws.{cut_put}
 use Rattle.text.specs.Words.{line_end}
-use Rattle.text.specs.Arrivals.{Held, arrived, held_in, Grows}
+use Rattle.text.specs.Arrivals.{arrived, held_in, Grows}
+use Rattle.text.specs.declared.arrivals.Held.{Held}
 
 -- the first bytes, without those at their very front, are moved to the front
 pub moved_front : (s : List ℕ) (from filled : ℕ) → from ≤ length (take filled s) → copy_within s from (length (take filled s)) 0 ≡ put s 0 (drop from (take filled s))

@@ -54,6 +54,11 @@ says_then_two p a b c first second = (second.0 ∙ first.0, said_then_two p a b 
 pub said_rest : {q r : Page} (p : Page) (a b : List ℕ) → q ≡ said p a → said p (a ++ b) ≡ r → said q b ≡ r
 said_rest p a b first all = ap (λ (s : Page). said s b) first ∙ said_append p a b ∙ all
 
+-- no text makes a page longer or shorter
+pub said_room : (p : Page) (text : List ℕ) → length (said p text).bytes ≡ length p.bytes
+unfolding said
+said_room p text = length_put p.bytes p.length (fitting p text)
+
 -- where nothing fits, the page stays
 said_stays : (p : Page) (text : List ℕ) → fitting p text ≡ [] → said p text ≡ p
 unfolding said put

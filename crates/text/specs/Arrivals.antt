@@ -2,6 +2,7 @@
 use Rattle.std.specs.Prelude.{ℕ, ◌+◌, ◌≡◌, Bool, true, false, cond, List, [], ◌++◌, length, take, drop, ltb}
 use Rattle.octets.specs.Tests.{need}
 use Rattle.text.specs.Words.{is_line, line_end}
+use Rattle.text.specs.declared.arrivals.Held.{Held}
 use Rattle.text.specs.declared.arrivals.Input.{Input}
 use Rattle.text.specs.declared.arrivals.Next.{Next}
 
@@ -13,11 +14,6 @@ pub record Arrived : Type 0 where
 -- the two together, as a contract states them
 abbrev pub arrived : List ℕ → Bool → Arrived
 arrived bytes skips = record { bytes = bytes; skips = skips }
-
--- how many bytes of a buffer are held, and whether they go on with such a line
-pub record Held : Type 0 where
-  pub filled : ℕ
-  pub skips : Bool
 
 -- as it stands at the front of a buffer
 abbrev pub held_in : List ℕ → Held → Arrived

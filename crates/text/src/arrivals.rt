@@ -1,15 +1,22 @@
-// Bytes that arrive in pieces are held at the front of a buffer until a line is whole. Each clause says of the buffer that it is still the same one, as it
-// has to of a `&mut` in a struct.
+// Bytes that arrive in pieces are held at the front of a buffer until a line is whole. Each clause says of the buffer that it is still the same one, and
+// as long, as it has to of a `&mut` in a struct.
 ghost use Rattle.std.specs.Prelude.{◌≡◌, true, false, length, take, drop};
 ghost use Rattle.octets.specs.Octets.{put};
 ghost use Rattle.text.specs.Arrivals as arrivals;
-ghost use Rattle.text.specs.Arrivals.{waiting, Leaves};
+ghost use Rattle.text.specs.Arrivals.{held_in, waiting, Leaves};
 
 use crate::page::up_to;
 use crate::words;
 
-// A buffer, how many bytes at its front are held, and whether they go on with a line that was refused as too long: that is said of none, too, and
+// How many bytes at the front of a buffer are held, and whether they go on with a line that was refused as too long: that is said of none, too, and
 // the definitions have it beside the bytes.
+#[derive(Clone, Copy)]
+pub struct Held {
+    pub filled: usize,
+    pub skips: bool,
+}
+
+// The buffer itself, and the same two of it.
 #[derive(Drop)]
 pub struct Input<'a> {
     pub buffer: &'a mut [u8],
@@ -25,6 +32,26 @@ pub enum Next {
     Refuse,
     Skip,
     Drop,
+}
+
+// The bytes may be lent to others too.
+pub fn next_step(buffer: &[u8], held: Held) -> Next
+    ensures { result ≡ arrivals.next_of (held_in buffer.now held) }
+{
+    let bytes = up_to(buffer, held.filled);
+    if words::line_end(bytes) < bytes.len() {
+        if held.skips {
+            return Next::Skip;
+        }
+        return Next::Answer;
+    }
+    if held.skips {
+        return Next::Drop;
+    }
+    if bytes.len() > words::LINE {
+        return Next::Refuse;
+    }
+    Next::Await
 }
 
 // Moves what stands from `from` up to `filled` to the front, since there is no heap, and answers how many bytes that are.
@@ -57,23 +84,19 @@ impl<'a> Input<'a> {
         up_to(self.buffer, self.filled)
     }
 
+    pub fn held(&self) -> Held
+        ensures { held_in self.now.buffer.now result ≡ waiting self.now }
+    {
+        Held {
+            filled: self.filled,
+            skips: self.skips,
+        }
+    }
+
     pub fn next_step(&self) -> Next
         ensures { result ≡ arrivals.next_of (waiting self.now) }
     {
-        let bytes = self.bytes();
-        if words::line_end(bytes) < bytes.len() {
-            if self.skips {
-                return Next::Skip;
-            }
-            return Next::Answer;
-        }
-        if self.skips {
-            return Next::Drop;
-        }
-        if bytes.len() > words::LINE {
-            return Next::Refuse;
-        }
-        Next::Await
+        next_step(self.buffer, self.held())
     }
 
     // What has arrived of a line is dropped, and the rest of it is to come.
@@ -87,7 +110,8 @@ impl<'a> Input<'a> {
 
     // The first n bytes are done with.
     pub fn release(&mut self, n: usize)
-        ensures { Leaves self.old self.new (arrivals.released n (waiting self.old)) }
+        ensures left { Leaves self.old self.new (arrivals.released n (waiting self.old)) }
+        ensures room { length self.new.buffer.now ≡ length self.old.buffer.now }
     {
         self.filled = move_front(self.buffer, n, self.filled);
         self.skips = false;
@@ -95,7 +119,8 @@ impl<'a> Input<'a> {
 
     // The end of the line that was passed over has arrived: what stands behind it is held.
     pub fn skip(&mut self)
-        ensures { Leaves self.old self.new (arrivals.skipped (waiting self.old)) }
+        ensures left { Leaves self.old self.new (arrivals.skipped (waiting self.old)) }
+        ensures room { length self.new.buffer.now ≡ length self.old.buffer.now }
     {
         let end = words::line_end(self.bytes());
         if end >= self.filled {

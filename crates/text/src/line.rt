@@ -1,7 +1,7 @@
 // A line: a text that is no longer than a line may be. Its words are read from it.
 ghost use Rattle.std.specs.Prelude.{◌≡◌};
 ghost use Rattle.text.specs.Words as words;
-ghost use Rattle.text.specs.Meanings.{Means};
+ghost use Rattle.text.specs.Meanings.{Means, Readable};
 
 use crate::words;
 use std::marker::Model;
@@ -55,16 +55,24 @@ impl<'a> Line<'a> {
         words::number(self.word(k))
     }
 
-    // The bytes that the word k means, put at the start of `space`; none where it means no bytes.
-    pub fn bytes<'s>(&self, k: usize, space: &'s mut [u8; words::BYTES]) -> Option<&'s [u8]>
-        ensures { Means result (words.word_at k self.now) }
+    // The word k, where it means bytes: what has to read two words looks at both before it makes room for either.
+    pub fn digits(&self, k: usize) -> Option<&'a [u8]>
+        ensures { Readable result (words.word_at k self.now) }
     {
         // From the field, and not by `word`: that is how the proof comes to know how long the line is.
         let word = words::word(self.text, k);
         if !words::is_bytes(word) {
             return None;
         }
-        let n = words::read_bytes(space, word);
+        Some(word)
+    }
+
+    // Those bytes, put at the start of `space`.
+    pub fn bytes<'s>(&self, k: usize, space: &'s mut [u8; words::BYTES]) -> Option<&'s [u8]>
+        ensures { Means result (words.word_at k self.now) }
+    {
+        let digits = self.digits(k)?;
+        let n = words::read_bytes(space, digits);
         Some(octets::cut(space, 0, n))
     }
 }

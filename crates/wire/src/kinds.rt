@@ -1,8 +1,7 @@
 // The kinds of number, counted apart, and what messages say. A value may be out of range: readers and writers refuse it.
-ghost use Rattle.std.specs.Prelude.{◌≡◌, ◌≤◌, length};
+ghost use Rattle.std.specs.Prelude.{◌≡◌};
 ghost use Rattle.wire.specs.Numbers.{is_account, is_recipient, is_amount, is_sequence, is_index};
 ghost use Rattle.wire.specs.Messages.{is_payment, is_funding};
-ghost use Rattle.wire.specs.Readers as readers;
 
 #[derive(Clone, Copy)]
 pub struct Account(pub u64);
@@ -109,14 +108,4 @@ impl Funding {
 pub struct Note {
     pub length: usize,
     pub bytes: [u8; 32],
-}
-
-// A part's bytes at the front of an array, zeros behind them.
-pub fn held<const N: usize>(part: &[u8]) -> [u8; N]
-    requires { length part.now ≤ N }
-    ensures { result ≡ readers.held N part.now }
-{
-    let mut bytes = [0; N];
-    octets::copy(&mut bytes, 0, part);
-    bytes
 }

@@ -11,6 +11,7 @@ abbrev pub invariant-loop-role : goal.invariant-loop-role
 invariant-loop-role l =
     (l.from ≤ length l.input)
     × (l.page.bytes.ghost_name ≡ l.initial.page.bytes.ghost_name)
+    × (length l.page.bytes.now ≡ length l.initial.page.bytes.now)
     × Left l.role l.input l.from (desk l.state (page l.page.bytes.now l.page.length)) (served l.role l.input (desk l.initial.state (page l.initial.page.bytes.now l.initial.page.length)))
 
 abbrev pub decreases-loop-role : goal.decreases-loop-role
