@@ -16,7 +16,7 @@ pub struct Held {
     pub skips: bool,
 }
 
-// The buffer itself, and the same two of it.
+// A buffer, and the same two of it.
 #[derive(Drop)]
 pub struct Input<'a> {
     pub buffer: &'a mut [u8],
@@ -34,7 +34,7 @@ pub enum Next {
     Drop,
 }
 
-// The bytes may be lent to others too.
+// What is to be done with what is held. The bytes may be lent to others too.
 pub fn next_step(buffer: &[u8], held: Held) -> Next
     ensures { result ≡ arrivals.next_of (held_in buffer.now held) }
 {
@@ -85,7 +85,7 @@ impl<'a> Input<'a> {
     }
 
     pub fn held(&self) -> Held
-        ensures { held_in self.now.buffer.now result ≡ waiting self.now }
+        ensures { result ≡ record { filled = self.now.filled; skips = self.now.skips } }
     {
         Held {
             filled: self.filled,
