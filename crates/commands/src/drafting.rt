@@ -3,7 +3,8 @@ use crate::arguments;
 use std::rt::Env;
 use text::page::{Page, up_to};
 
-// A word has room for the longest that the system takes: there is no heap.
+// A word has room for the longest that the system takes: there is no heap. Not inlined: it would stand on the stack while the line is answered.
+#[inline(never)]
 fn join_argument(rt: HostRuntime, i: usize, line: &mut Page) {
     let mut word = [0u8; 65536];
     match rt.arg(i, &mut word) {

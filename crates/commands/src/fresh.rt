@@ -53,8 +53,7 @@ fn make_state<const LENGTH: usize, Fill: FnOnce(&mut [u8]) -> Result<(), Refusal
     keep(Place { rt, path }, &state)
 }
 
-// Answers whether a state was made, or why not was printed.
-pub fn try_make(rt: HostRuntime) -> Result<(), Told> {
+fn make_or_tell(rt: HostRuntime) -> Result<(), Told> {
     let mut space = [0u8; 16];
     match (arguments::read(rt, 2, &mut space), arguments::count(rt)) {
         (b"machine", 6) => make_state::<{ records::state::LENGTH }, _>(rt, 5, |state| {
@@ -71,7 +70,7 @@ pub fn try_make(rt: HostRuntime) -> Result<(), Told> {
     }
 }
 
-// The same for a caller who has no more to do: what went wrong was told.
+// Its callers have no more to do: what went wrong was told.
 pub fn make(rt: HostRuntime) {
-    let _ = try_make(rt);
+    let _ = make_or_tell(rt);
 }

@@ -96,7 +96,8 @@ pub(crate) fn pause(rt: HostRuntime) {
     thread::sleep(&rt, Duration::from_millis(1));
 }
 
-// Takes away what a process that runs no more may have left half-written.
+// Takes away what a process that runs no more may have left half-written. Not inlined, as the functions that make the name of an heir's file.
+#[inline(never)]
 fn clear(state: Place, digits: &[u8]) {
     if words::decimal(digits).is_some() {
         state.draft(digits, &mut [0u8; NAME]).remove();

@@ -78,12 +78,10 @@ fn standing_line(state: &[u8], line: &Line, page: &mut Page)
     if !line.has_words(2) {
         return unread(page, Fault::WordCount);
     }
-    let Some(digits) = line.digits(1) else {
+    let mut space = [0; words::BYTES];
+    let Some(message) = line.bytes(1, &mut space) else {
         return unread(page, Fault::NotHexadecimal);
     };
-    let mut space = [0; words::BYTES];
-    let n = words::read_bytes(&mut space, digits);
-    let message = octets::cut(&space, 0, n);
     wording::standing(page, machine::standing_body(message, state));
 }
 
