@@ -67,7 +67,7 @@ impl<'a> Line<'a> {
         Some(word)
     }
 
-    // Those bytes, put at the start of `space`.
+    // The bytes that the word k means, put at the start of `space`; none where it means no bytes.
     pub fn bytes<'s>(&self, k: usize, space: &'s mut [u8; words::BYTES]) -> Option<&'s [u8]>
         ensures { Means result (words.word_at k self.now) }
     {
